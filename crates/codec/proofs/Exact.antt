@@ -1,0 +1,188 @@
+-- A codec is exact where its reader accepts what its writer writes of sendable values, and nothing else. Each way to make a codec keeps that,
+-- so 'accepts exactly what is written' is proved here once for every message. Assumes nothing.
+use Prim.Native.Nat.{ℕ, zero, suc, _+_, _^_, _≤_, _<_}
+use mathlib.Core.List.{List, [], _∷_, _++_}
+use mathlib.Core.Bool.{Bool, true, false, _&&_, cond}
+use mathlib.Core.Path.{_≡_, refl, sym, ap, ap₂, _∙_, subst}
+use native.Mathlib.Omega.{arith}
+use borrow.Author.Tests.{leb-true, le-leb, eqb-true, eq-eqb}
+use lib.ListN.{length, take, drop, getD, length-append, length-take, length-drop, take-append-drop}
+use lib.Seq.{take-at, drop-at}
+use lib.Dec.{leb, eqb}
+use Rattle.laws.proofs.Tests.{and-left, and-right, and-both, cond-yes, cond-no, told}
+use Rattle.digits.specs.Digits.{digits, readField, readDecimal, widest}
+use Rattle.digits.specs.declared.Field.{Field}
+use Rattle.digits.specs.declared.Field.the-variants.{Value, Wrong}
+use Rattle.digits.proofs.Laws.{length-digits, read-digits, digits-read}
+use Rattle.codec.specs.Codec.{Got, got, bad, Codec, passed, failing, first, both, mapped, chained, fieldSays, number, printable, text, letter, begins, tagged, _⊗_, viaIso, through, readTagged}
+
+pub record Exact {A : Type 0} (c : Codec A) : Type 0 where
+  pub long : (a : A) → c .lowest a ≡ 0 → length (c .print a) ≡ c .width
+  pub back : (a : A) → c .lowest a ≡ 0 → c .parse (c .print a) ≡ got a
+  pub sound : (s : List ℕ) (a : A) → length s ≡ c .width → c .parse s ≡ got a → (c .lowest a ≡ 0) × (s ≡ c .print a)
+
+-- ---- what the small words say
+
+-- a field is in range where its test holds
+pub holds : (ok : Bool) (i : ℕ) → failing ok (suc i) ≡ 0 → ok ≡ true
+unfolding failing
+holds true i e = refl
+holds false i e = absurd (omega arith)
+
+pub fine : (ok : Bool) (i : ℕ) → ok ≡ true → failing ok i ≡ 0
+unfolding failing
+fine ok i e = cond-yes 0 i e
+
+pub first-zero : (m n : ℕ) → first m n ≡ 0 → (m ≡ 0) × (n ≡ 0)
+unfolding first
+first-zero zero n e = (refl, e)
+first-zero (suc m) n e = absurd (omega arith)
+
+pub zero-first : (m n : ℕ) → m ≡ 0 → n ≡ 0 → first m n ≡ 0
+unfolding first
+zero-first m n p q = rw (p, q)
+
+pub passed-is : {A : Type 0} (t : Bool) (i : ℕ) (a b : A) → passed t i a ≡ got b → (t ≡ true) × (a ≡ b)
+unfolding passed
+passed-is true i a b e = (refl, cc)
+passed-is false i a b e = absurd (let z : _≡_ {A = ℕ} 0 1 = cc in omega arith)
+
+pub both-is : {A B : Type 0} (p : Got A) (q : Got B) (r : A × B) → both p q ≡ got r → (p ≡ got (r .0)) × (q ≡ got (r .1))
+unfolding both
+both-is (bad i) q r e = absurd (let z : _≡_ {A = ℕ} 0 1 = cc in omega arith)
+both-is (got a) (bad j) r e = absurd (let z : _≡_ {A = ℕ} 0 1 = cc in omega arith)
+both-is {A} {B} (got a) (got b) r e =
+    let f : _≡_ {A = A × B} (a, b) r = cc in
+    (ap (λ (x : A × B). got (x .0)) f, ap (λ (x : A × B). got (x .1)) f)
+
+mapped-is : {A B : Type 0} (f : A → B) (q : Got A) (b : B) → mapped f q ≡ got b → (a : A) × (q ≡ got a) × (f a ≡ b)
+unfolding mapped
+mapped-is f (got a) b e = (a, refl, cc)
+mapped-is f (bad j) b e = absurd (let z : _≡_ {A = ℕ} 0 1 = cc in omega arith)
+
+chained-is : {A B : Type 0} (f : A → Got B) (q : Got A) (b : B) → chained f q ≡ got b → (a : A) × (q ≡ got a) × (f a ≡ got b)
+unfolding chained
+chained-is f (got a) b e = (a, refl, e)
+chained-is f (bad j) b e = absurd (let z : _≡_ {A = ℕ} 0 1 = cc in omega arith)
+
+pub field-is : (i : ℕ) (f : Field) (n : ℕ) → fieldSays i f ≡ got n → f ≡ Value n
+unfolding fieldSays
+field-is i (Value v) n e = cc
+field-is i Wrong n e = absurd (let z : _≡_ {A = ℕ} 0 1 = cc in omega arith)
+
+-- ---- the fields
+
+pub number-exact : (i b off w top : ℕ) → 0 < b → w ≤ widest → top < b ^ w → Exact (number (suc i) b off w top)
+unfolding fieldSays
+number-exact i b off w top some short low = record {
+  long = λ n h. length-digits b off some w n;
+  back = λ n h. rw (read-digits b off some w n top short (leb-true n top (holds (leb n top) i h)) low);
+  sound = λ s n l e.
+      let p = digits-read b off some s n top (field-is (suc i) (readField b off top s) n e) in
+      (fine (leb n top) (suc i) (le-leb n top (p .0)), p .1 ∙ ap (λ (w : ℕ). digits b off w n) l);
+}
+
+pub text-exact : (i w : ℕ) → Exact (text (suc i) w)
+unfolding passed
+text-exact i w = record {
+  long = λ s h. eqb-true (length s) w (and-left (eqb (length s) w) (printable s) (holds _ i h));
+  back = λ s h. rw (and-right (eqb (length s) w) (printable s) (holds _ i h));
+  sound = λ s a l e.
+      let p = passed-is (printable s) (suc i) s a e in (
+        fine _ (suc i) (and-both (eq-eqb (length a) w (ap length (sym (p .1)) ∙ l)) (ap printable (sym (p .1)) ∙ p .0)),
+        p .1,
+      );
+}
+
+one-is : (s : List ℕ) → length s ≡ 1 → s ≡ getD s 0 0 ∷ []
+one-is [] l = absurd (omega arith)
+one-is (a ∷ []) l = refl
+one-is (a ∷ b ∷ s) l = absurd (omega arith)
+
+pub letter-exact : (i : ℕ) (ok : ℕ → Bool) → Exact (letter (suc i) ok)
+unfolding passed
+letter-exact i ok = record {
+  long = λ x h. refl;
+  back = λ x h. rw (holds (ok x) i h);
+  sound = λ s x l e.
+      let p = passed-is (ok (getD s 0 0)) (suc i) (getD s 0 0) x e in
+      (fine (ok x) (suc i) (ap ok (sym (p .1)) ∙ p .0), one-is s l ∙ ap (λ (y : ℕ). y ∷ []) (p .1));
+}
+
+-- ---- the ways to make one of others
+
+behind-tag : {A : Type 0} (t i : ℕ) (c : Codec A) (s : List ℕ) (a : A) → cond (begins t s) (c .parse (drop 1 s)) (bad i) ≡ got a → (s ≡ t ∷ drop 1 s) × (c .parse (drop 1 s) ≡ got a)
+behind-tag t i c [] a e = absurd (let z : _≡_ {A = ℕ} 0 1 = cc in omega arith)
+behind-tag t i c (x ∷ s) a e =
+    told (eqb x t)
+    (λ y. (ap (λ (z : ℕ). z ∷ s) (eqb-true x t y), sym (cond-yes (c .parse s) (bad i) y) ∙ e))
+    (λ n. absurd (let z : bad i ≡ got a = sym (cond-no (c .parse s) (bad i) n) ∙ e in let y : _≡_ {A = ℕ} 0 1 = cc in omega arith))
+
+pub tagged-exact : {A : Type 0} (t i : ℕ) (c : Codec A) → Exact c → Exact (tagged t i c)
+tagged-exact t i c x = record {
+  long = λ a h. ap suc (x .long a h);
+  back = λ a h. rw (eq-eqb t t refl) (x .back a h);
+  sound = λ s a l e.
+      let p = behind-tag t i c s a e in
+      let n : length s ≡ suc (length (drop 1 s)) = ap length (p .0) in
+      let q = x .sound (drop 1 s) a (omega arith) (p .1) in
+      (q .0, p .0 ∙ ap (λ (r : List ℕ). t ∷ r) (q .1));
+}
+
+pub ⊗-exact : {A B : Type 0} (c : Codec A) (d : Codec B) → Exact c → Exact d → Exact (c ⊗ d)
+unfolding both
+⊗-exact c d x y = record {
+  long = λ p h.
+      let z = first-zero (c .lowest (p .0)) (d .lowest (p .1)) h in
+      length-append (c .print (p .0)) (d .print (p .1)) ∙ ap₂ _+_ (x .long (p .0) (z .0)) (y .long (p .1) (z .1));
+  back = λ p h.
+      let z = first-zero (c .lowest (p .0)) (d .lowest (p .1)) h in
+      let l = x .long (p .0) (z .0) in
+      rw (
+        take-at (c .print (p .0)) (d .print (p .1)) (c .width) l,
+        drop-at (c .print (p .0)) (d .print (p .1)) (c .width) l,
+        x .back (p .0) (z .0),
+        y .back (p .1) (z .1),
+      );
+  sound = λ s p l e.
+      let q = both-is (c .parse (take (c .width) s)) (d .parse (drop (c .width) s)) p e in
+      let u = x .sound (take (c .width) s) (p .0) (simp length-take (omega arith)) (q .0) in
+      let v = y .sound (drop (c .width) s) (p .1) (simp length-drop (omega arith)) (q .1) in
+      (zero-first _ _ (u .0) (v .0), sym (take-append-drop (c .width) s) ∙ ap₂ _++_ (u .1) (v .1));
+}
+
+pub iso-exact : {A B : Type 0} (f : A → B) (g : B → A) (c : Codec A) → ((a : A) → g (f a) ≡ a) → ((b : B) → f (g b) ≡ b) → Exact c → Exact (viaIso f g c)
+unfolding mapped
+iso-exact {A} f g c gf fg x = record {
+  long = λ b h. x .long (g b) h;
+  back = λ b h. rw (x .back (g b) h, fg b);
+  sound = λ s b l e.
+      let m = mapped-is f (c .parse s) b e in
+      let k : g b ≡ m .0 = ap g (sym (m .2)) ∙ gf (m .0) in
+      let q = x .sound s (m .0) l (m .1) in
+      (ap (c .lowest) k ∙ q .0, q .1 ∙ ap (c .print) (sym k));
+}
+
+-- the codes are exact: each sendable value's code is sent and comes back, and only such codes are taken
+pub record Codes {A B : Type 0} (c : Codec A) (ok : B → Bool) (enc : B → A) (dec : A → Got B) : Type 0 where
+  pub sent : (b : B) → ok b ≡ true → (c .lowest (enc b) ≡ 0) × (dec (enc b) ≡ got b)
+  pub taken : (a : A) (b : B) → dec a ≡ got b → (ok b ≡ true) × (enc b ≡ a)
+
+pub through-exact : {A B : Type 0} (i : ℕ) (ok : B → Bool) (enc : B → A) (dec : A → Got B) (c : Codec A) → Codes c ok enc dec → Exact c → Exact (through (suc i) ok enc dec c)
+unfolding chained
+through-exact i ok enc dec c k x = record {
+  long = λ b h. x .long (enc b) (k .sent b (holds (ok b) i h) .0);
+  back = λ b h.
+      let s = k .sent b (holds (ok b) i h) in
+      rw (x .back (enc b) (s .0), s .1);
+  sound = λ s b l e.
+      let m = chained-is dec (c .parse s) b e in
+      let t = k .taken (m .0) b (m .2) in
+      let q = x .sound s (m .0) l (m .1) in
+      (fine (ok b) (suc i) (t .0), q .1 ∙ ap (c .print) (sym (t .1)));
+}
+
+-- ---- what the code's reader of a tagged number says is what the codec parses
+pub tagged-number : (t i w top : ℕ) (s : List ℕ) → fieldSays i (readTagged t top s) ≡ tagged t i (number i 10 48 w top) .parse s
+unfolding readTagged fieldSays
+tagged-number t i w top s = told (begins t s) (λ y. rw y) (λ n. rw n)

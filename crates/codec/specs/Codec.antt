@@ -1,0 +1,131 @@
+-- A field of a message: how many bytes it takes, which values may be sent, how one is written and what a reader finds.
+use Prim.Native.Nat.{ℕ, zero, suc, _+_}
+use mathlib.Core.List.{List, [], _∷_, _++_}
+use mathlib.Core.Bool.{Bool, true, false, _&&_, cond}
+use mathlib.Core.Path.{_≡_}
+use lib.ListN.{length, take, drop, getD}
+use lib.Dec.{leb, eqb}
+use Rattle.digits.specs.Digits.{digits, readField, readDecimal}
+use Rattle.digits.specs.declared.Field.{Field}
+use Rattle.digits.specs.declared.Field.the-variants.{Value, Wrong}
+
+-- what a reader finds: the value, or the first wrong field
+pub data Got (A : Type 0) : Type 0 where
+  got : A → Got A
+  bad : ℕ → Got A
+
+pub record Codec (A : Type 0) : Type 0 where
+  pub width : ℕ
+  -- the lowest field out of range, 0 where the value may be sent
+  pub lowest : A → ℕ
+  pub print : A → List ℕ
+  pub parse : List ℕ → Got A
+
+-- the value, where the test holds; else field i is wrong
+unfoldable pub passed : {A : Type 0} → Bool → ℕ → A → Got A
+passed ok i a = cond ok (got a) (bad i)
+
+-- field i, where the test fails
+unfoldable pub failing : Bool → ℕ → ℕ
+failing ok i = cond ok 0 i
+
+-- the first of two that is not 0
+unfoldable pub first : ℕ → ℕ → ℕ
+first zero j = j
+first (suc i) j = suc i
+
+unfoldable pub both : {A B : Type 0} → Got A → Got B → Got (A × B)
+both (bad i) q = bad i
+both (got a) (bad j) = bad j
+both (got a) (got b) = got (a, b)
+
+unfoldable pub mapped : {A B : Type 0} → (A → B) → Got A → Got B
+mapped f (bad i) = bad i
+mapped f (got a) = got (f a)
+
+unfoldable pub chained : {A B : Type 0} → (A → Got B) → Got A → Got B
+chained f (bad i) = bad i
+chained f (got a) = f a
+
+-- what a reader of numbers says of field i
+unfoldable pub fieldSays : ℕ → Field → Got ℕ
+fieldSays i (Value n) = got n
+fieldSays i Wrong = bad i
+
+-- field i, a number of at most top as w digits
+abbrev pub number : ℕ → ℕ → ℕ → ℕ → ℕ → Codec ℕ
+number i b off w top = record {
+  width = w;
+  lowest = λ n. failing (leb n top) i;
+  print = λ n. digits b off w n;
+  parse = λ s. fieldSays i (readField b off top s);
+}
+
+-- the bytes that a text holds: 20 to 7E hex
+unfoldable pub printable : List ℕ → Bool
+printable [] = true
+printable (x ∷ s) = (leb 32 x && leb x 126) && printable s
+
+-- field i, a text of w bytes
+abbrev pub text : ℕ → ℕ → Codec (List ℕ)
+text i w = record {
+  width = w;
+  lowest = λ s. failing (eqb (length s) w && printable s) i;
+  print = λ s. s;
+  parse = λ s. passed (printable s) i s;
+}
+
+-- field i, one byte that passes a test
+abbrev pub letter : ℕ → (ℕ → Bool) → Codec ℕ
+letter i ok = record {
+  width = 1;
+  lowest = λ x. failing (ok x) i;
+  print = λ x. x ∷ [];
+  parse = λ s. passed (ok (getD s 0 0)) i (getD s 0 0);
+}
+
+-- s begins with t
+abbrev pub begins : ℕ → List ℕ → Bool
+begins t [] = false
+begins t (x ∷ s) = eqb x t
+
+-- a tag before it, which counts to field i
+abbrev pub tagged : {A : Type 0} → ℕ → ℕ → Codec A → Codec A
+tagged t i c = record {
+  width = suc (c .width);
+  lowest = c .lowest;
+  print = λ a. t ∷ c .print a;
+  parse = λ s. cond (begins t s) (c .parse (drop 1 s)) (bad i);
+}
+
+-- one after the other
+infixr 60 _⊗_
+abbrev pub _⊗_ : {A B : Type 0} → Codec A → Codec B → Codec (A × B)
+c ⊗ d = record {
+  width = c .width + d .width;
+  lowest = λ p. first (c .lowest (p .0)) (d .lowest (p .1));
+  print = λ p. c .print (p .0) ++ d .print (p .1);
+  parse = λ s. both (c .parse (take (c .width) s)) (d .parse (drop (c .width) s));
+}
+
+-- the same bytes for another type of value
+abbrev pub viaIso : {A B : Type 0} → (A → B) → (B → A) → Codec A → Codec B
+viaIso f g c = record {
+  width = c .width;
+  lowest = λ b. c .lowest (g b);
+  print = λ b. c .print (g b);
+  parse = λ s. mapped f (c .parse s);
+}
+
+-- field i, a value that is sent as its code: enc gives the code, dec takes it back or refuses
+abbrev pub through : {A B : Type 0} → ℕ → (B → Bool) → (B → A) → (A → Got B) → Codec A → Codec B
+through i ok enc dec c = record {
+  width = c .width;
+  lowest = λ b. failing (ok b) i;
+  print = λ b. c .print (enc b);
+  parse = λ s. chained dec (c .parse s);
+}
+
+-- a tag and decimal digits
+unfoldable pub readTagged : ℕ → ℕ → List ℕ → Field
+readTagged t top s = cond (begins t s) (readDecimal top (drop 1 s)) Wrong

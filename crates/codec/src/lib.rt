@@ -1,0 +1,52 @@
+// A field of a message: a printer, a parser and one law between them, and how fields make a message.
+// The code here serves every field that is a text or a number behind its tag.
+use digits::Field;
+ghost use mathlib.Core.Path.{_≡_};
+ghost use mathlib.Core.List.{_∷_};
+ghost use Rattle.laws.specs.Over.{over};
+ghost use Rattle.digits.specs.Digits.{decimal};
+ghost use Rattle.codec.specs.Codec.{printable, readTagged};
+
+// Whether every byte may stand in a text.
+pub fn is_text(s: &[u8]) -> bool
+    ensures { λ r. ⌜ r ≡ printable (now (s .entry)) ⌝ }
+{
+    let mut i = 0;
+    while i < s.len() {
+        if s[i] < 32 {
+            return false;
+        }
+        if 126 < s[i] {
+            return false;
+        }
+        i += 1;
+    }
+    true
+}
+
+// Writes a tag and the decimal digits behind it.
+pub fn put_tagged(out: &mut [u8], at: usize, tag: u8, width: usize, n: u32)
+    ensures { λ _. ⌜ now (out .exit) ≡ over (now (out .entry)) at (tag ∷ decimal width n) ⌝ }
+{
+    if out.len() == 0 {
+        return;
+    }
+    if !lent::has_room(out.len() - 1, at, width) {
+        return;
+    }
+    lent::put_byte(out, at, tag);
+    digits::put_decimal(out, at + 1, width, n);
+}
+
+// Reads a tag and the decimal digits of a number that is at most top.
+pub fn read_tagged(s: &[u8], tag: u8, top: u32) -> Field
+    ensures { λ r. ⌜ r ≡ readTagged tag top (now (s .entry)) ⌝ }
+{
+    if s.len() == 0 {
+        return Field::Wrong;
+    }
+    if s[0] != tag {
+        return Field::Wrong;
+    }
+    digits::read_decimal(&s[1..], top)
+}

@@ -1,0 +1,3 @@
+pub mod Tests
+pub mod OneAnswer
+pub mod OverLaws

@@ -1,0 +1,69 @@
+-- The laws of `over`: its length, how writes one behind the other compose, and which stores come to one. Assumes nothing.
+use Prim.Native.Nat.{ℕ, _+_, _≤_, _<_}
+use mathlib.Core.Bool.{Bool, true, false, cond}
+use mathlib.Core.List.{List, [], _∷_, _++_, append-assoc}
+use mathlib.Core.Path.{_≡_, refl, sym, ap, _∙_}
+use native.Mathlib.Nat.{add-assoc}
+use native.Mathlib.Omega.{arith}
+use borrow.Author.Tests.{le-leb, lt-leb, leb-true, leb-false}
+use lib.Dec.{leb}
+use lib.ListN.{length, take, drop, length-append, length-take, length-drop}
+use lib.Seq.{take-at, drop-append-add, drop-drop, length-take-le, sets, sets-eq, paste, take-length}
+use Rattle.laws.specs.Over.{over}
+use Rattle.laws.proofs.Tests.{told}
+
+module _ (d s : List ℕ) (a : ℕ) where
+  pub over-fits : a + length s ≤ length d → over d a s ≡ take a d ++ (s ++ drop (a + length s) d)
+  unfolding over
+  over-fits h = rw (le-leb _ _ h)
+
+  pub over-short : length d < a + length s → over d a s ≡ d
+  unfolding over
+  over-short h = rw (lt-leb _ _ h)
+
+  -- a write leaves the length as it was
+  pub length-over : length (over d a s) ≡ length d
+  length-over =
+      told (leb (a + length s) (length d))
+      (λ e.
+          let h = leb-true _ _ e in
+          ap length (over-fits h) ∙ simp (length-append, length-take, length-drop) (omega arith))
+      (λ e. ap length (over-short (leb-false _ _ e)))
+
+  -- straight-line stores, one behind the other, are one write
+  pub sets-over : a + length s ≤ length d → sets d a s ≡ over d a s
+  sets-over h = sets-eq s d a h ∙ append-assoc (take a d) s (drop (a + length s) d) ∙ sym (over-fits h)
+
+  -- a copy of all of s is one write
+  pub paste-over : a + length s ≤ length d → paste d a s (length s) ≡ over d a s
+  paste-over h = rw (take-length s) (append-assoc (take a d) s (drop (a + length s) d) ∙ sym (over-fits h))
+
+-- what was written at the start is read there
+pub take-over : (d s : List ℕ) (n : ℕ) → length s ≡ n → n ≤ length d → take n (over d 0 s) ≡ s
+take-over d s n l h =
+    let room : 0 + length s ≤ length d = omega arith in
+    rw (over-fits d s 0 room) (take-at s (drop (0 + length s) d) n l)
+
+-- what follows the place where the first write ended
+behind : (d s : List ℕ) (a b k : ℕ) → b ≡ a + length s → b ≤ length d → drop (b + k) (take a d ++ (s ++ drop b d)) ≡ drop (b + k) d
+behind d s a b k e h =
+    let l : length (take a d ++ s) ≡ b = length-append (take a d) s ∙ ap (λ (x : ℕ). x + length s) (length-take-le a d (omega arith)) ∙ sym e in
+    rw (← append-assoc (take a d) s (drop b d))
+    (ap (λ (x : ℕ). drop (x + k) ((take a d ++ s) ++ drop b d)) (sym l)
+    ∙ drop-append-add (take a d ++ s) (drop b d) k
+    ∙ drop-drop k b d)
+
+-- a write on from where the first one ended: both are one write
+pub over-next : (d s t : List ℕ) (a b : ℕ) → a + length s ≡ b → b + length t ≤ length d → over (over d a s) b t ≡ over d a (s ++ t)
+over-next d s t a b e h =
+    let p : over d a s ≡ take a d ++ (s ++ drop b d) = over-fits d s a (omega arith) ∙ ap (λ (x : ℕ). take a d ++ (s ++ drop x d)) e in
+    let l : length (take a d ++ s) ≡ b = length-append (take a d) s ∙ ap (λ (x : ℕ). x + length s) (length-take-le a d (omega arith)) ∙ e in
+    let st : a + length (s ++ t) ≡ b + length t = simp length-append (omega arith) in
+    let f : take b (over d a s) ≡ take a d ++ s = ap (take b) (p ∙ sym (append-assoc (take a d) s (drop b d))) ∙ take-at (take a d ++ s) (drop b d) b l in
+    let g : drop (b + length t) (over d a s) ≡ drop (b + length t) d = ap (drop (b + length t)) p ∙ behind d s a b (length t) (sym e) (omega arith) in
+    over-fits (over d a s) t b (rw (length-over d s a) h)
+    ∙ rw (f, g, over-fits d (s ++ t) a (rw st h), st) (rw (append-assoc, append-assoc))
+
+-- the same, of what two calls left: what a run of writers is made of
+pub onto : (d : List ℕ) {e f : List ℕ} (s t : List ℕ) (a b : ℕ) → e ≡ over d a s → f ≡ over e b t → a + length s ≡ b → b + length t ≤ length d → f ≡ over d a (s ++ t)
+onto d s t a b p q l h = q ∙ ap (λ (x : List ℕ). over x b t) p ∙ over-next d s t a b l h

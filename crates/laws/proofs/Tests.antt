@@ -1,0 +1,40 @@
+-- From tests to equations: a result by the branch that was taken, against a definition by `cond`. Assumes nothing.
+use Prim.Native.Nat.{ℕ}
+use mathlib.Core.Bool.{Bool, true, false, cond, _&&_, _||_, false≢true}
+use mathlib.Core.Path.{_≡_, refl, sym, ap, _∙_}
+
+-- the test held: what is left is the first branch
+pub yes : {A : Type 0} {r x : A} {b : Bool} (y : A) → b ≡ true → r ≡ x → r ≡ cond b x y
+yes {A} {r} {x} {b} y e h = h ∙ sym (ap (λ (t : Bool). cond t x y) e)
+
+-- the test failed: what is left is the second
+pub no : {A : Type 0} {r y : A} {b : Bool} (x : A) → b ≡ false → r ≡ y → r ≡ cond b x y
+no {A} {r} {y} {b} x e h = h ∙ sym (ap (λ (t : Bool). cond t x y) e)
+
+-- the arm of a `match` at the value k
+pub at : {A W : Type 0} (f : W → A) {w k : W} {r : A} → w ≡ k → r ≡ f k → r ≡ f w
+at f e h = h ∙ sym (ap f e)
+
+-- what a choice comes to, by its test
+pub cond-yes : {A : Type 0} {b : Bool} (x y : A) → b ≡ true → cond b x y ≡ x
+cond-yes x y e = ap (λ (t : Bool). cond t x y) e
+
+pub cond-no : {A : Type 0} {b : Bool} (x y : A) → b ≡ false → cond b x y ≡ y
+cond-no x y e = ap (λ (t : Bool). cond t x y) e
+
+-- two tests joined
+pub and-left : (a b : Bool) → (a && b) ≡ true → a ≡ true
+and-left true b h = refl
+and-left false b h = h
+
+pub and-right : (a b : Bool) → (a && b) ≡ true → b ≡ true
+and-right true b h = h
+and-right false b h = absurd (false≢true h)
+
+pub and-both : {a b : Bool} → a ≡ true → b ≡ true → (a && b) ≡ true
+and-both p q = λ i. p i && q i
+
+-- a test holds or fails
+pub told : {C : Type 0} (b : Bool) → (b ≡ true → C) → (b ≡ false → C) → C
+told true f g = f refl
+told false f g = g refl

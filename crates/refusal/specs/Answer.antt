@@ -1,0 +1,11 @@
+-- What an entry answers: done, with contents or a count; or one refusal.
+use mathlib.Core.Bool.{Bool, cond}
+use Rattle.refusal.specs.declared.Refusal.{Refusal}
+
+pub data Answer (A : Type 0) : Type 0 where
+  accepted : A → Answer A
+  refused : Refusal → Answer A
+
+-- the work, where the test holds; else this refusal
+unfoldable pub unless : {A : Type 0} → Bool → Refusal → Answer A → Answer A
+unless ok r k = cond ok k (refused r)

@@ -1,0 +1,64 @@
+// The refusals of document 01, each with the number and the value that the paper gives it.
+ghost use mathlib.Core.Path.{_≡_};
+ghost use Rattle.refusal.specs.Refusal.{numberOf, valueOf};
+
+pub enum Refusal {
+    // 1: a record or measurement field out of range: the lowest one.
+    Field(u32),
+    // 2: lent output shorter than what goes in it: the needed length.
+    Room(usize),
+    // 3: a read message of wrong length: its length.
+    Length(usize),
+    // 4: the last two bytes are not LF CR.
+    End,
+    // 5: the checksum is wrong.
+    Checksum,
+    // 6: contents no writer writes: the first wrong field or item.
+    Contents(u32),
+    // 7: a line is dropped.
+    Dropped,
+    // 8: a setting out of range: the lowest item.
+    Setting(u32),
+    // 16: a handed-in state or collector that is not one of ours.
+    State,
+}
+
+// Where the contents of an answer stand beside it: done, or the refusal that left them zero.
+pub enum Verdict {
+    Done,
+    Refused(Refusal),
+}
+
+// The paper's number.
+pub fn number_of(r: Refusal) -> u32
+    ensures { λ n. ⌜ n ≡ numberOf r ⌝ }
+{
+    match r {
+        Refusal::Field(_) => 1,
+        Refusal::Room(_) => 2,
+        Refusal::Length(_) => 3,
+        Refusal::End => 4,
+        Refusal::Checksum => 5,
+        Refusal::Contents(_) => 6,
+        Refusal::Dropped => 7,
+        Refusal::Setting(_) => 8,
+        Refusal::State => 16,
+    }
+}
+
+// What the paper returns beside the number; 0 where it says nothing.
+pub fn value_of(r: Refusal) -> usize
+    ensures { λ n. ⌜ n ≡ valueOf r ⌝ }
+{
+    match r {
+        Refusal::Field(i) => i as usize,
+        Refusal::Room(n) => n,
+        Refusal::Length(n) => n,
+        Refusal::End => 0,
+        Refusal::Checksum => 0,
+        Refusal::Contents(i) => i as usize,
+        Refusal::Dropped => 0,
+        Refusal::Setting(i) => i as usize,
+        Refusal::State => 0,
+    }
+}

@@ -1,0 +1,15 @@
+use mathlib.Core.Path.{_≡_, refl, ap, _∙_}
+use mathlib.Core.Bool.{Bool}
+use lib.IntN.{ℤ, pos, negsuc}
+use lib.Signed.{ltZ}
+use Rattle.sign.proofs.Law.{below-is}
+use mir.Facts.{toZ-ofZ}
+use Rattle.sign.specs.Sign.{below0}
+use Rattle.sign.proofs.is_below.Statement.{statement}
+use Rattle.sign.proofs.is_below.Tie as tie
+
+returns : tie.Need-returns
+returns c = rw (toZ-ofZ (c .fits .e)) (below-is (c .args .e))
+
+pub is-below-spec : {M : Type 1} → statement M
+is-below-spec = tie.close (tie.spec returns)
