@@ -1,41 +1,60 @@
+-- `codec::read_tagged` meets its contract: each `return` is a case of `readTagged`. Assumes nothing.
+use Prim.Native.Nat.{ℕ, _-_, _≤_, _<_}
+use mathlib.Core.List.{List, [], _∷_}
+use mathlib.Core.Path.{_≡_, refl, sym, ap, _∙_}
+use native.Mathlib.Omega.{arith}
 use borrow.Author.Needs.{needs}
+use borrow.Author.Tests.{eq-eqb, ne-eqb}
+use lib.ListN.{length, getD, take, drop, length-drop}
+use lib.Seq.{take-all}
+use Rattle.digits.specs.Digits.{readDecimal}
+use Rattle.digits.specs.declared.Field.{Field}
+use Rattle.digits.specs.declared.Field.the-variants.{Wrong}
+use Rattle.codec.specs.Codec.{readTagged}
 use Rattle.codec.proofs.read_tagged.Statement.{statement}
 use Rattle.codec.proofs.read_tagged.Tie as tie
-use Rattle.codec.proofs.read_tagged.Reads as reads
-use Rattle.codec.proofs.read_tagged.Lts as lts
-use Rattle.digits.proofs.read_decimal.Reads as read-decimal-reads
 
--- src/lib.rt:46:9
+none : (t top : ℕ) (s : List ℕ) → length s ≡ 0 → Wrong ≡ readTagged t top s
+unfolding readTagged
+none t top [] h = refl
+none t top (x ∷ s) h = absurd (omega arith)
+
+other : (t top : ℕ) (s : List ℕ) → (getD s 0 0 ≡ t → ⊥) → (length s ≡ 0 → ⊥) → Wrong ≡ readTagged t top s
+unfolding readTagged
+other t top [] n some = refl
+other t top (x ∷ s) n some = rw (ne-eqb x t n)
+
+-- all that follows the tag
+behind : (t top : ℕ) (s : List ℕ) (f : Field) → getD s 0 0 ≡ t → (length s ≡ 0 → ⊥) → f ≡ readDecimal top (take (length s - 1) (drop 1 s)) → f ≡ readTagged t top s
+unfolding readTagged
+behind t top [] f y some e = absurd (some refl)
+behind t top (x ∷ s) f y some e = rw (eq-eqb x t y) (e ∙ ap (readDecimal top) (take-all (length (x ∷ s) - 1) s (omega arith)))
+
 returns : tie.Need-returns
-returns c = ?
+returns c = none _ _ _ (c .if1 .taken)
 
--- src/lib.rt:48:8
 shared-slice-read-if2 : tie.Need-shared-slice-read-if2
 shared-slice-read-if2 c = search needs
 
--- src/lib.rt:49:9
 returns-2 : tie.Need-returns-2
-returns-2 c = ?
+returns-2 c = other _ _ _ (c .if2 .taken) (c .before .before .if1 .left)
 
--- src/lib.rt:51:26
 sub-read-decimal : tie.Need-sub-read-decimal
 sub-read-decimal c = search needs
 
--- src/lib.rt:51:26
 part-read-decimal-start : tie.Need-part-read-decimal-start
 part-read-decimal-start c = search needs
 
--- src/lib.rt:51:26
 part-read-decimal-end : tie.Need-part-read-decimal-end
 part-read-decimal-end c = search needs
 
--- src/lib.rt:51:5
 read-decimal-requires : tie.Need-read-decimal-requires
 read-decimal-requires c κs = search needs
 
--- src/lib.rt:42:1
 returns-3 : tie.Need-returns-3
-returns-3 c = ?
+returns-3 c =
+    let e = c .before .before in
+    behind _ _ _ _ (e .if2 .left) (e .before .before .if1 .left) (c .read-decimal .ensures)
 
 pub read-tagged-spec : {M : Type 1} → statement M
 read-tagged-spec =
