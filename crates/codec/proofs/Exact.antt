@@ -166,7 +166,7 @@ iso-exact {A} f g c gf fg x = record {
 -- the codes are exact: each sendable value's code is sent and comes back, and only such codes are taken
 pub record Codes {A B : Type 0} (c : Codec A) (ok : B → Bool) (enc : B → A) (dec : A → Got B) : Type 0 where
   pub sent : (b : B) → ok b ≡ true → (c .lowest (enc b) ≡ 0) × (dec (enc b) ≡ got b)
-  pub taken : (a : A) (b : B) → dec a ≡ got b → (ok b ≡ true) × (enc b ≡ a)
+  pub taken : (a : A) (b : B) → c .lowest a ≡ 0 → dec a ≡ got b → (ok b ≡ true) × (enc b ≡ a)
 
 pub through-exact : {A B : Type 0} (i : ℕ) (ok : B → Bool) (enc : B → A) (dec : A → Got B) (c : Codec A) → Codes c ok enc dec → Exact c → Exact (through (suc i) ok enc dec c)
 unfolding chained
@@ -177,8 +177,8 @@ through-exact i ok enc dec c k x = record {
       rw (x .back (enc b) (s .0), s .1);
   sound = λ s b l e.
       let m = chained-is dec (c .parse s) b e in
-      let t = k .taken (m .0) b (m .2) in
       let q = x .sound s (m .0) l (m .1) in
+      let t = k .taken (m .0) b (q .0) (m .2) in
       (fine (ok b) (suc i) (t .0), q .1 ∙ ap (c .print) (sym (t .1)));
 }
 

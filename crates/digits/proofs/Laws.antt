@@ -92,14 +92,14 @@ module _ (b off : ℕ) (some : 0 < b) where
   digits-read s n top e =
       told (leb (length s) widest)
       (λ short.
-          told (areDigits b off s && leb (value b off s) top)
-          (λ good.
-              let v : value b off s ≡ n = (let z : Value (value b off s) ≡ Value n = rw (short, good) at e in cc) in
-              let h : value b off s ≤ top = leb-true _ _ (and-right (areDigits b off s) (leb (value b off s) top) good) in (
-                omega arith,
-                sym (digits-value s (and-left (areDigits b off s) (leb (value b off s) top) good)) ∙ ap (digits b off (length s)) v,
-              ))
-          (λ wrong. absurd (let z : Wrong ≡ Value n = rw (short, wrong) at e in let y : _≡_ {A = ℕ} 0 1 = cc in omega arith)))
+      told (areDigits b off s && leb (value b off s) top)
+      (λ good.
+      let v : value b off s ≡ n = (let z : Value (value b off s) ≡ Value n = rw (short, good) at e in cc) in
+      let h : value b off s ≤ top = leb-true _ _ (and-right (areDigits b off s) (leb (value b off s) top) good) in (
+        omega arith,
+        sym (digits-value s (and-left (areDigits b off s) (leb (value b off s) top) good)) ∙ ap (digits b off (length s)) v,
+      ))
+      (λ wrong. absurd (let z : Wrong ≡ Value n = rw (short, wrong) at e in let y : _≡_ {A = ℕ} 0 1 = cc in omega arith)))
       (λ long. absurd (let z : Wrong ≡ Value n = rw long at e in let y : _≡_ {A = ℕ} 0 1 = cc in omega arith))
 
 regroup : (v b q p r : ℕ) → v * (b * p) + (q * p + r) ≡ (v * b + q) * p + r
@@ -124,7 +124,7 @@ module _ (b off top : ℕ) where
   unfolding areDigits value
   onward-more v d ds h k =
       let e : v * b ^ suc (length ds) + ((d - off) * b ^ length ds + value b off ds) ≡ (v * b + (d - off)) * b ^ length ds + value b off ds
-          = rw (pow-succ' b (length ds)) (regroup v b (d - off) (b ^ length ds) (value b off ds)) in
+      = rw (pow-succ' b (length ds)) (regroup v b (d - off) (b ^ length ds) (value b off ds)) in
       rw (le-leb off d h, lt-ltb (d - off) b k) (ap (λ (x : ℕ). only (areDigits b off ds && leb x top) x) e)
 
   pub onward-low : (v d : ℕ) (ds : List ℕ) → d < off → onward v (d ∷ ds) ≡ Wrong

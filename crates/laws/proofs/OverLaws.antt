@@ -26,8 +26,8 @@ module _ (d s : List ℕ) (a : ℕ) where
   length-over =
       told (leb (a + length s) (length d))
       (λ e.
-          let h = leb-true _ _ e in
-          ap length (over-fits h) ∙ simp (length-append, length-take, length-drop) (omega arith))
+      let h = leb-true _ _ e in
+      ap length (over-fits h) ∙ simp (length-append, length-take, length-drop) (omega arith))
       (λ e. ap length (over-short (leb-false _ _ e)))
 
   -- straight-line stores, one behind the other, are one write

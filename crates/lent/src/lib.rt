@@ -25,6 +25,17 @@ pub fn put_byte(out: &mut [u8], at: usize, byte: u8)
     out[at] = byte;
 }
 
+// Writes two bytes.
+pub fn put_pair(out: &mut [u8], at: usize, first: u8, second: u8)
+    ensures { λ _. ⌜ now (out .exit) ≡ over (now (out .entry)) at (first ∷ second ∷ []) ⌝ }
+{
+    if !has_room(out.len(), at, 2) {
+        return;
+    }
+    out[at] = first;
+    out[at + 1] = second;
+}
+
 // Writes the bytes of a text.
 pub fn put_text(out: &mut [u8], at: usize, text: &[u8])
     ensures { λ _. ⌜ now (out .exit) ≡ over (now (out .entry)) at (now (text .entry)) ⌝ }

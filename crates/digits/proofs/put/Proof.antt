@@ -15,8 +15,6 @@ use Rattle.digits.specs.Digits.{digits}
 use Rattle.digits.proofs.Laws.{length-digits}
 use Rattle.digits.proofs.put.Statement.{statement}
 use Rattle.digits.proofs.put.Tie as tie
-use Rattle.digits.proofs.put.Reads as reads
-use Rattle.digits.proofs.put.Lts as lts
 
 -- the list before the turn that has `left` places to write
 abbrev shape : ℕ → ℕ → ℕ → ℕ → ℕ → List ℕ → ℕ → List ℕ

@@ -16,11 +16,11 @@ moved : (len at n : ℕ) → n ≤ len → leb at (len - n) ≡ leb (at + n) len
 moved len at n h =
     told (leb at (len - n))
     (λ e.
-        let k = leb-true at (len - n) e in
-        e ∙ sym (le-leb (at + n) len (omega arith)))
+    let k = leb-true at (len - n) e in
+    e ∙ sym (le-leb (at + n) len (omega arith)))
     (λ e.
-        let k = leb-false at (len - n) e in
-        e ∙ sym (lt-leb (at + n) len (omega arith)))
+    let k = leb-false at (len - n) e in
+    e ∙ sym (lt-leb (at + n) len (omega arith)))
 
 returns : tie.Need-returns
 returns c = sym (short _ _ _ (c .if1 .taken))

@@ -12,9 +12,6 @@ use lib.Seq.{paste, paste-zero, paste-suc, length-paste, take-all}
 use Rattle.laws.proofs.OverLaws.{over-short, paste-over}
 use Rattle.lent.proofs.put_text.Statement.{statement}
 use Rattle.lent.proofs.put_text.Tie as tie
-use Rattle.lent.proofs.put_text.Reads as reads
-use Rattle.lent.proofs.put_text.Lts as lts
-use Rattle.lent.proofs.has_room.Reads as has-room-reads
 
 abbrev Inv-loop : tie.InvT-loop
 Inv-loop out₀ at text i₀ out i = (i ≤ length text) × (at + length text ≤ length out₀) × (out ≡ paste out₀ at text i) × (length out ≡ length out₀)
@@ -55,8 +52,7 @@ loop-again : tie.Need-loop-again Inv-loop μ-loop
 loop-again c =
     let l = c .before .before .loop in
     let i = l .inv in
-    let a = c .before .before .before .before .before .before .before .args in
-    (
+    let a = c .before .before .before .before .before .before .before .args in (
       omega arith,
       i .1,
       rw (i .2, add-one) (paste-suc (a .out .now) (a .at) (a .text .now) (l .i) 0 (omega arith) (c .before .loop-test .taken)),

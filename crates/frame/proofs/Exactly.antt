@@ -1,0 +1,172 @@
+-- A reader accepts exactly the messages that the writer writes of sendable contents: once, for every exact codec. Assumes nothing.
+use Prim.Native.Nat.{ℕ, zero, suc, _+_, _-_, _/_, _%_, _≤_, _<_}
+use mathlib.Core.List.{List, [], _∷_, _++_}
+use mathlib.Core.Bool.{Bool, true, false, _&&_, cond}
+use mathlib.Core.Path.{_≡_, refl, sym, ap, ap₂, _∙_, subst}
+use mathlib.Core.Logic.{_↔_}
+use native.Mathlib.Nat.{add-zero}
+use native.Mathlib.Omega.{arith}
+use borrow.Author.Tests.{eqb-true, eq-eqb}
+use lib.ListN.{length, take, drop, getD, length-append, length-take, length-drop, take-append-drop}
+use lib.Seq.{take-at, getD-drop, getD-append-add, drop-drop}
+use lib.Dec.{eqb, leb}
+use Rattle.laws.proofs.Tests.{and-left, and-right, and-both, told}
+use Rattle.refusal.specs.Answer.{Answer, accepted, refused}
+use Rattle.refusal.specs.declared.Verdict.{Verdict}
+use Rattle.refusal.specs.declared.Verdict.the-variants.{Done, Refused}
+use Rattle.codec.specs.Codec.{Got, got, bad, Codec}
+use Rattle.codec.proofs.Exact.{Exact}
+use Rattle.frame.specs.Frame.{sumOf, ending, endingWidth, framed, ends, sums, opening}
+use Rattle.frame.specs.Message.{found, afterwards, readOf, messageOf}
+
+-- ---- what the small words say
+
+afterwards-is : {A : Type 0} (v : Verdict) (k : Answer A) (a : A) → afterwards v k ≡ accepted a → (v ≡ Done) × (k ≡ accepted a)
+unfolding afterwards
+afterwards-is Done k a e = (refl, e)
+afterwards-is (Refused r) k a e = absurd (let z : _≡_ {A = ℕ} 0 1 = cc in omega arith)
+
+found-is : {A : Type 0} (q : Got A) (a : A) → found q ≡ accepted a → q ≡ got a
+unfolding found
+found-is (got b) a e = cc
+found-is (bad i) a e = absurd (let z : _≡_ {A = ℕ} 0 1 = cc in omega arith)
+
+-- a message opens where its length, its end and its checksum are right
+pub record Opens (checksum : Bool) (w : ℕ) (m : List ℕ) : Type 0 where
+  pub long : length m ≡ w + endingWidth checksum
+  pub ended : ends m ≡ true
+  pub summed : checksum ≡ true → sums w m ≡ true
+
+pub opens : (checksum : Bool) (w : ℕ) (m : List ℕ) → opening checksum w m ≡ Done → Opens checksum w m
+unfolding opening
+opens checksum w m e =
+    told (eqb (length m) (w + endingWidth checksum))
+    (λ l.
+    told (ends m)
+    (λ n. record {
+      long = eqb-true _ _ l;
+      ended = n;
+      summed = λ on. told (sums w m) (λ s. s) (λ s. absurd (let z : _≡_ {A = ℕ} 0 1 = cc (rw (l, n, on, s) at e) in omega arith));
+    })
+    (λ n. absurd (let z : _≡_ {A = ℕ} 0 1 = cc (rw (l, n) at e) in omega arith)))
+    (λ l. absurd (let z : _≡_ {A = ℕ} 0 1 = cc (rw l at e) in omega arith))
+
+pub opened : (checksum : Bool) (w : ℕ) (m : List ℕ) → Opens checksum w m → opening checksum w m ≡ Done
+unfolding opening
+opened true w m o = rw (eq-eqb _ _ (o .long), o .ended, o .summed refl)
+opened false w m o = rw (eq-eqb _ _ (o .long), o .ended)
+
+-- ---- the ending of a message that opens is the ending of its contents
+
+two-is : (s : List ℕ) → length s ≡ 2 → s ≡ getD s 0 0 ∷ getD s 1 0 ∷ []
+two-is [] l = absurd (omega arith)
+two-is (a ∷ []) l = absurd (omega arith)
+two-is (a ∷ b ∷ []) l = refl
+two-is (a ∷ b ∷ c ∷ s) l = absurd (omega arith)
+
+four-is : (s : List ℕ) → length s ≡ 4 → s ≡ getD s 0 0 ∷ getD s 1 0 ∷ drop 2 s
+four-is [] l = absurd (omega arith)
+four-is (a ∷ []) l = absurd (omega arith)
+four-is (a ∷ b ∷ s) l = refl
+
+at : (m : List ℕ) (w k j v : ℕ) → w + k ≡ j → eqb (getD m j 0) v ≡ true → getD (drop w m) k 0 ≡ v
+at m w k j v e h = getD-drop w m k 0 ∙ ap (λ (x : ℕ). getD m x 0) e ∙ eqb-true (getD m j 0) v h
+
+-- LF CR, k bytes behind the contents
+ended-at : (m : List ℕ) (w k : ℕ) → length m ≡ w + (k + 2) → ends m ≡ true → drop (w + k) m ≡ 10 ∷ 13 ∷ []
+unfolding ends
+ended-at m w k l e =
+    let p = and-left (eqb (getD m (length m - 2) 0) 10) (eqb (getD m (length m - 1) 0) 13) e in
+    let q = and-right (eqb (getD m (length m - 2) 0) 10) (eqb (getD m (length m - 1) 0) 13) e in
+    two-is (drop (w + k) m) (simp length-drop (omega arith))
+    ∙ ap₂ (λ (x y : ℕ). x ∷ y ∷ []) (at m (w + k) 0 (length m - 2) 10 (omega arith) p) (at m (w + k) 1 (length m - 1) 13 (omega arith) q)
+
+ending-is : (checksum : Bool) (w : ℕ) (m : List ℕ) → Opens checksum w m → drop w m ≡ ending checksum (take w m)
+unfolding sums ending
+ending-is false w m o = ap (λ (x : ℕ). drop x m) (sym (add-zero w)) ∙ ended-at m w 0 (o .long) (o .ended)
+ending-is true w m o =
+    let s = sumOf (take w m) in
+    let p = and-left (eqb (getD m w 0) (s .high)) (eqb (getD m (w + 1) 0) (s .low)) (o .summed refl) in
+    let q = and-right (eqb (getD m w 0) (s .high)) (eqb (getD m (w + 1) 0) (s .low)) (o .summed refl) in
+    let n : length (drop w m) ≡ 4 = simp length-drop (omega (arith, o .long)) in
+    four-is (drop w m) n
+    ∙ rw (
+      at m w 0 w (s .high) (omega arith) p,
+      at m w 1 (w + 1) (s .low) (omega arith) q,
+      drop-drop 2 w m,
+      ended-at m w 2 (o .long) (o .ended),
+    )
+
+-- ---- and what is framed opens
+
+pub ending-long : (checksum : Bool) (s : List ℕ) → length (ending checksum s) ≡ endingWidth checksum
+unfolding ending
+ending-long true s = refl
+ending-long false s = refl
+
+test-at : (b t : List ℕ) (w k j v : ℕ) → length b ≡ w → w + k ≡ j → getD t k 0 ≡ v → eqb (getD (b ++ t) j 0) v ≡ true
+test-at b t w k j v l e h =
+    eq-eqb (getD (b ++ t) j 0) v (ap (λ (x : ℕ). getD (b ++ t) x 0) (sym e ∙ ap (λ (x : ℕ). x + k) (sym l)) ∙ getD-append-add b t k 0 ∙ h)
+
+pub framed-long : (checksum : Bool) (w : ℕ) (b : List ℕ) → length b ≡ w → length (framed checksum b) ≡ w + endingWidth checksum
+framed-long checksum w b l = length-append b (ending checksum b) ∙ ap₂ _+_ l (ending-long checksum b)
+
+framed-ends : (checksum : Bool) (w : ℕ) (b : List ℕ) → length b ≡ w → ends (framed checksum b) ≡ true
+unfolding ends ending
+framed-ends true w b l =
+    let n = framed-long true w b l in
+    and-both
+    (test-at b (ending true b) w 2 (length (framed true b) - 2) 10 l (omega arith) refl)
+    (test-at b (ending true b) w 3 (length (framed true b) - 1) 13 l (omega arith) refl)
+framed-ends false w b l =
+    let n = framed-long false w b l in
+    and-both
+    (test-at b (ending false b) w 0 (length (framed false b) - 2) 10 l (omega arith) refl)
+    (test-at b (ending false b) w 1 (length (framed false b) - 1) 13 l (omega arith) refl)
+
+framed-sums : (w : ℕ) (b : List ℕ) → length b ≡ w → sums w (framed true b) ≡ true
+unfolding sums ending
+framed-sums w b l =
+    rw (take-at b (ending true b) w l)
+    (and-both
+    (test-at b (ending true b) w 0 w (sumOf b .high) l (omega arith) refl)
+    (test-at b (ending true b) w 1 (w + 1) (sumOf b .low) l (omega arith) refl))
+
+framed-opens : (checksum : Bool) (w : ℕ) (b : List ℕ) → length b ≡ w → Opens checksum w (framed checksum b)
+framed-opens checksum w b l = record {
+  long = framed-long checksum w b l;
+  ended = framed-ends checksum w b l;
+  summed = λ on. subst (λ (c : Bool). sums w (framed c b) ≡ true) (sym on) (framed-sums w b l);
+}
+
+-- ---- the theorem
+
+module _ {A : Type 0} (c : Codec A) (x : Exact c) (checksum : Bool) where
+  -- reading what was written gives the contents back
+  pub reads-written : (a : A) → c .lowest a ≡ 0 → readOf c checksum (messageOf c checksum a) ≡ accepted a
+  unfolding readOf afterwards found
+  reads-written a h =
+      let b = c .print a in
+      let l = x .long a h in
+      rw (opened checksum (c .width) (framed checksum b) (framed-opens checksum (c .width) b l), take-at b (ending checksum b) (c .width) l, x .back a h)
+
+  -- what is read was written
+  pub reads-only : (m : List ℕ) (a : A) → readOf c checksum m ≡ accepted a → (c .lowest a ≡ 0) × (m ≡ messageOf c checksum a)
+  unfolding readOf
+  reads-only m a e =
+      let p = afterwards-is (opening checksum (c .width) m) _ a e in
+      let o = opens checksum (c .width) m (p .0) in
+      let s = x .sound (take (c .width) m) a (simp length-take (omega (arith, o .long))) (found-is (c .parse (take (c .width) m)) a (p .1)) in (
+        s .0,
+        sym (take-append-drop (c .width) m) ∙ ap₂ _++_ (s .1) (ending-is checksum (c .width) m o ∙ ap (ending checksum) (s .1)),
+      )
+
+  -- accepted with these contents exactly where they are sendable and the message is the writer's
+  pub exactly : (m : List ℕ) (a : A) → (readOf c checksum m ≡ accepted a) ↔ ((c .lowest a ≡ 0) × (m ≡ messageOf c checksum a))
+  exactly m a = (reads-only m a, λ h. ap (readOf c checksum) (h .1) ∙ reads-written a (h .0))
+
+  -- no two contents share a message
+  pub one-contents : (a b : A) → c .lowest a ≡ 0 → c .lowest b ≡ 0 → messageOf c checksum a ≡ messageOf c checksum b → a ≡ b
+  one-contents a b h k e =
+      let p : accepted a ≡ accepted b = sym (reads-written a h) ∙ ap (readOf c checksum) e ∙ reads-written b k in
+      cc

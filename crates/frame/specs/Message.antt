@@ -1,0 +1,43 @@
+-- A whole message of any codec: what its reader answers, and what its writer answers and leaves.
+use Prim.Native.Nat.{ℕ, _+_}
+use mathlib.Core.List.{List}
+use mathlib.Core.Bool.{Bool, cond}
+use lib.ListN.{length, take}
+use lib.Dec.{leb, eqb}
+use Rattle.laws.specs.Over.{over}
+use Rattle.refusal.specs.Answer.{Answer, accepted, refused, unless}
+use Rattle.refusal.specs.declared.Refusal.{Refusal}
+use Rattle.refusal.specs.declared.Refusal.the-variants.{Room, Contents}
+use Rattle.refusal.specs.declared.Verdict.{Verdict}
+use Rattle.refusal.specs.declared.Verdict.the-variants.{Done, Refused}
+use Rattle.codec.specs.Codec.{Got, got, bad, Codec}
+use Rattle.frame.specs.Frame.{framed, endingWidth, opening}
+
+-- 6 with the first wrong field or item
+unfoldable pub found : {A : Type 0} → Got A → Answer A
+found (got a) = accepted a
+found (bad i) = refused (Contents i)
+
+unfoldable pub afterwards : {A : Type 0} → Verdict → Answer A → Answer A
+afterwards Done k = k
+afterwards (Refused r) k = refused r
+
+-- a reader: 3, 4, 5, then the contents
+unfoldable pub readOf : {A : Type 0} → Codec A → Bool → List ℕ → Answer A
+readOf c checksum m = afterwards (opening checksum (c .width) m) (found (c .parse (take (c .width) m)))
+
+abbrev pub messageOf : {A : Type 0} → Codec A → Bool → A → List ℕ
+messageOf c checksum a = framed checksum (c .print a)
+
+abbrev pub needed : {A : Type 0} → Codec A → Bool → ℕ
+needed c checksum = c .width + endingWidth checksum
+
+-- a writer: the lowest field or item out of range (1 or 8), then 2 with the needed length; else the count
+unfoldable pub writeOf : {A : Type 0} → Codec A → (ℕ → Refusal) → Bool → A → List ℕ → Answer ℕ
+writeOf c low checksum a out =
+    unless (eqb (c .lowest a) 0) (low (c .lowest a))
+    (unless (leb (needed c checksum) (length out)) (Room (needed c checksum)) (accepted (needed c checksum)))
+
+-- the message at the start of the lent memory, the rest as it was; a refusal writes nothing
+unfoldable pub leftBy : {A : Type 0} → Codec A → Bool → A → List ℕ → List ℕ
+leftBy c checksum a out = cond (eqb (c .lowest a) 0) (over out 0 (messageOf c checksum a)) out
