@@ -1,0 +1,79 @@
+-- A number with a point is an exact field: whole part and tenth are, and each number is made of them in one way. And what the code's reader says
+-- is what the codec parses. Assumes nothing.
+use Prim.Native.Nat.{ℕ, suc, _+_, _-_, _*_, _/_, _%_, _^_, _≤_, _<_}
+use mathlib.Core.List.{List, _∷_}
+use mathlib.Core.Bool.{Bool, true, false}
+use mathlib.Core.Path.{_≡_, refl, sym, ap, ap₂, _∙_}
+use native.Mathlib.Omega.{arith}
+use borrow.Author.Tests.{leb-true, le-leb, le-ltb}
+use lib.Dec.{leb}
+use lib.ListN.{length, drop, length-append}
+use Rattle.digits.specs.Digits.{only, decimal, widest}
+use Rattle.digits.specs.declared.Field.{Field}
+use Rattle.digits.specs.declared.Field.the-variants.{Value, Wrong}
+use Rattle.digits.proofs.Laws.{length-digits}
+use Rattle.codec.specs.Codec.{passed, failing, both, chained, fieldSays, number, tagged, _⊗_}
+use Rattle.codec.proofs.Exact.{Exact, Codes, holds, fine, first-zero, zero-first, passed-is, number-exact, tagged-exact, ⊗-exact, through-exact, tagged-number}
+use Rattle.pointed.specs.Pointed.{point, pointedText, pointed, joined, readPointed}
+
+pub pointed-long : (w n : ℕ) → length (pointedText w n) ≡ w + 2
+pointed-long w n =
+    length-append (decimal w (n / 10)) (point ∷ decimal 1 (n % 10))
+    ∙ ap₂ (λ (x y : ℕ). x + suc y) (length-digits 10 48 (omega arith) w (n / 10)) (length-digits 10 48 (omega arith) 1 (n % 10))
+
+module _ (i w top : ℕ) where
+  pub pointed-width : pointed i w top .width ≡ w + 2
+  unfolding pointed
+  pointed-width = refl
+
+  pub pointed-print : (n : ℕ) → pointed i w top .print n ≡ pointedText w n
+  unfolding pointed
+  pointed-print n = refl
+
+  pub pointed-lowest : (n : ℕ) → pointed i w top .lowest n ≡ failing (leb n top) i
+  unfolding pointed
+  pointed-lowest n = refl
+
+-- a number is made of its whole part and its tenth, and of no other two
+codes : (i w top : ℕ) →
+    Codes (number (suc i) 10 48 w (top / 10) ⊗ tagged point (suc i) (number (suc i) 10 48 1 9)) (λ n. leb n top) (λ n. (n / 10, n % 10))
+    (λ p. passed (leb (p .0 * 10 + p .1) top) (suc i) (p .0 * 10 + p .1))
+unfolding passed
+codes i w top = record {
+  sent = λ n h.
+      let k = leb-true n top h in
+      let e : n / 10 * 10 + n % 10 ≡ n = omega arith in
+      (zero-first _ _ (fine _ _ (le-leb (n / 10) (top / 10) (omega arith))) (fine _ _ (le-leb (n % 10) 9 (omega arith))), rw (e, h));
+  taken = λ p n h e.
+      let z = first-zero (failing (leb (p .0) (top / 10)) (suc i)) (failing (leb (p .1) 9) (suc i)) h in
+      let k = leb-true (p .1) 9 (holds _ i (z .1)) in
+      let q = passed-is (leb (p .0 * 10 + p .1) top) (suc i) (p .0 * 10 + p .1) n e in
+      let f : p .0 * 10 + p .1 ≡ n = q .1 in
+      (ap (λ (m : ℕ). leb m top) (sym f) ∙ q .0, ap₂ (λ (a b : ℕ). (a, b)) (omega arith) (omega arith));
+}
+
+pub pointed-exact : (i w top : ℕ) → w ≤ widest → top / 10 < 10 ^ w → Exact (pointed (suc i) w top)
+unfolding pointed
+pointed-exact i w top short low =
+    through-exact i _ _ _ _ (codes i w top)
+    (⊗-exact _ _ (number-exact i 10 48 w (top / 10) (omega arith) short low) (tagged-exact point (suc i) _ (number-exact i 10 48 1 9 (omega arith) (omega arith) (omega arith))))
+
+-- ---- what the code's reader says
+
+says-only : (i n : ℕ) (t : Bool) → fieldSays i (only t n) ≡ passed t i n
+unfolding fieldSays passed
+says-only i n true = refl
+says-only i n false = refl
+
+says-joined : (i top : ℕ) (f g : Field) →
+    fieldSays i (joined top f g) ≡ chained (λ (p : ℕ × ℕ). passed (leb (p .0 * 10 + p .1) top) i (p .0 * 10 + p .1)) (both (fieldSays i f) (fieldSays i g))
+unfolding joined fieldSays chained both
+says-joined i top (Value a) (Value b) = says-only i (a * 10 + b) (leb (a * 10 + b) top)
+says-joined i top (Value a) Wrong = refl
+says-joined i top Wrong g = refl
+
+pub pointed-read : (i w top : ℕ) (s : List ℕ) → length s ≡ w + 2 → fieldSays i (readPointed top s) ≡ pointed i w top .parse s
+unfolding pointed readPointed
+pointed-read i w top s l =
+    let e : length s - 2 ≡ w = omega arith in
+    rw (le-ltb (length s) 2 (omega arith), e, says-joined, tagged-number point i 1 9 (drop w s))

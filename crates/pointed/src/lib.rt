@@ -1,0 +1,41 @@
+// A number in tenths as text: digits, a point and one digit (027.3 for 273).
+use digits::Field;
+ghost use mathlib.Core.Path.{_≡_};
+ghost use Rattle.laws.specs.Over.{over};
+ghost use Rattle.pointed.specs.Pointed.{pointedText, readPointed};
+
+// Writes the whole part as width digits, the point, and the tenths.
+pub fn put_pointed(out: &mut [u8], at: usize, width: usize, n: u32)
+    ensures { λ _. ⌜ now (out .exit) ≡ over (now (out .entry)) at (pointedText width n) ⌝ }
+{
+    if out.len() < 2 {
+        return;
+    }
+    if !lent::has_room(out.len() - 2, at, width) {
+        return;
+    }
+    digits::put_decimal(out, at, width, n / 10);
+    codec::put_tagged(out, at + width, 46, 1, n % 10);
+}
+
+// Reads the whole of s as a number in tenths that is at most top.
+pub fn read_pointed(s: &[u8], top: u16) -> Field
+    ensures { λ r. ⌜ r ≡ readPointed top (now (s .entry)) ⌝ }
+{
+    if s.len() < 2 {
+        return Field::Wrong;
+    }
+    let whole_width = s.len() - 2;
+    let most = top as u32;
+    let Field::Value(whole) = digits::read_decimal(&s[..whole_width], most / 10) else {
+        return Field::Wrong;
+    };
+    let Field::Value(tenth) = codec::read_tagged(&s[whole_width..], 46, 9) else {
+        return Field::Wrong;
+    };
+    let n = whole * 10 + tenth;
+    if most < n {
+        return Field::Wrong;
+    }
+    Field::Value(n)
+}

@@ -1,0 +1,48 @@
+-- What may be sent: document 01's table of ranges, one rule for both forms. The answer is the lowest field out of range, 0 where there is none.
+use Prim.Native.Nat.{ℕ}
+use mathlib.Core.Bool.{Bool, _&&_}
+use mathlib.Core.List.{List}
+use lib.Dec.{leb, eqb}
+use lib.ListN.{length}
+use Rattle.sign.specs.Sign.{size}
+use Rattle.codec.specs.Codec.{failing, first, printable}
+use Rattle.stop.specs.Stop.{stopOk}
+use Rattle.record.specs.declared.Figures.{Figures}
+use Rattle.record.specs.declared.Record.{Record}
+
+-- the highest distance, and how far the pupil reaches from zero
+abbrev pub topDistance : ℕ
+topDistance = 9999999
+
+abbrev pub topPupil : ℕ
+topPupil = 999
+
+-- fields 1 to 4, distances up to top
+unfoldable pub frontLowest : ℕ → Figures → ℕ
+frontLowest top f =
+    first (failing (leb (f .focus) top) 1)
+    (first (failing (leb (f .aperture) 4095) 2)
+    (first (failing (stopOk (f .stop)) 3)
+    (failing (leb (f .tenth) 9) 4)))
+
+-- fields 5 to 8
+unfoldable pub middleLowest : ℕ → Figures → ℕ
+middleLowest top f =
+    first (failing (leb (f .focal) 1023) 5)
+    (first (failing (leb (f .hyperfocal) top) 6)
+    (first (failing (leb (f .near) top) 7)
+    (failing (leb (f .far) top) 8)))
+
+-- fields 9 to 11, the pupil up to most from zero
+unfoldable pub backLowest : ℕ → Figures → ℕ
+backLowest most f =
+    first (failing (leb (f .view) 4095) 9)
+    (first (failing (leb (size (f .pupil)) most) 10)
+    (failing (leb (f .zoom) 1000) 11))
+
+unfoldable pub figuresLowest : ℕ → ℕ → Figures → ℕ
+figuresLowest top most f = first (frontLowest top f) (first (middleLowest top f) (backLowest most f))
+
+-- and field 12: nine bytes, each 20..7E hex
+unfoldable pub recordLowest : Record → ℕ
+recordLowest r = first (figuresLowest topDistance topPupil (r .figures)) (failing (eqb (length (r .serial)) 9 && printable (r .serial)) 12)

@@ -1,0 +1,90 @@
+// The ring stop and its tenth: the stop as three characters of text (5.6, 11.), and both as the
+// shared pair of the packed form.
+use digits::Field;
+ghost use mathlib.Core.Path.{_≡_};
+ghost use Rattle.laws.specs.Over.{over};
+ghost use Rattle.stop.specs.Stop.{stopOk, stopText, readStopText, stopPair, readStop, readTenth};
+
+// Whether a stop may be sent: 0..99, or a multiple of 10 in 100..250.
+pub fn stop_ok(stop: u32) -> bool
+    ensures { λ r. ⌜ r ≡ stopOk stop ⌝ }
+{
+    (stop < 100) | ((stop % 10 == 0) & (stop <= 250))
+}
+
+// Writes the three characters of a stop.
+pub fn put_stop_text(out: &mut [u8], at: usize, stop: u32)
+    ensures { λ _. ⌜ now (out .exit) ≡ over (now (out .entry)) at (stopText stop) ⌝ }
+{
+    if stop < 100 {
+        pointed::put_pointed(out, at, 1, stop);
+        return;
+    }
+    if !lent::has_room(out.len(), at, 3) {
+        return;
+    }
+    digits::put_decimal(out, at, 2, stop / 10);
+    lent::put_byte(out, at + 2, 46);
+}
+
+// Reads the three characters of a stop; where the point stands tells the form.
+pub fn read_stop_text(s: &[u8]) -> Field
+    ensures { λ r. ⌜ r ≡ readStopText (now (s .entry)) ⌝ }
+{
+    if s.len() != 3 {
+        return Field::Wrong;
+    }
+    if s[1] == 46 {
+        return pointed::read_pointed(s, 99);
+    }
+    if s[2] != 46 {
+        return Field::Wrong;
+    }
+    let Field::Value(n) = digits::read_decimal(&s[..2], 25) else {
+        return Field::Wrong;
+    };
+    if n < 10 {
+        return Field::Wrong;
+    }
+    Field::Value(n * 10)
+}
+
+// Writes the shared pair.
+pub fn put_stop_pair(out: &mut [u8], at: usize, stop: u32, tenth: u32)
+    ensures { λ _. ⌜ now (out .exit) ≡ over (now (out .entry)) at (stopPair stop tenth) ⌝ }
+{
+    let first = 128 + stop % 128;
+    let second = 128 + 64 * (stop / 128 % 2) + tenth % 16;
+    lent::put_pair(out, at, first as u8, second as u8);
+}
+
+// Reads the stop of a shared pair.
+pub fn read_stop(a: u8, b: u8) -> Field
+    ensures { λ r. ⌜ r ≡ readStop a b ⌝ }
+{
+    let x = a as u32;
+    let y = b as u32;
+    if x / 128 != 1 {
+        return Field::Wrong;
+    }
+    let stop = x % 128 + 128 * (y / 64 % 2);
+    if !stop_ok(stop) {
+        return Field::Wrong;
+    }
+    Field::Value(stop)
+}
+
+// Reads the tenth of a shared pair from its second byte.
+pub fn read_tenth(b: u8) -> Field
+    ensures { λ r. ⌜ r ≡ readTenth b ⌝ }
+{
+    let y = b as u32;
+    if y / 128 != 1 {
+        return Field::Wrong;
+    }
+    let tenth = y % 64;
+    if 9 < tenth {
+        return Field::Wrong;
+    }
+    Field::Value(tenth)
+}
