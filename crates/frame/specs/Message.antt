@@ -12,6 +12,8 @@ use Rattle.refusal.specs.declared.Verdict.{Verdict}
 use Rattle.refusal.specs.declared.Verdict.the-variants.{Done, Refused}
 use Rattle.codec.specs.Codec.{Got, got, bad, Codec}
 use Rattle.frame.specs.Frame.{framed, endingWidth, opening}
+use Rattle.frame.specs.declared.Wrote.{Wrote}
+use Rattle.frame.specs.declared.Wrote.the-variants as wrote
 
 -- 6 with the first wrong field or item
 unfoldable pub found : {A : Type 0} → Got A → Answer A
@@ -37,6 +39,11 @@ unfoldable pub writeOf : {A : Type 0} → Codec A → (ℕ → Refusal) → Bool
 writeOf c low checksum a out =
     unless (eqb (c .lowest a) 0) (low (c .lowest a))
     (unless (leb (needed c checksum) (length out)) (Room (needed c checksum)) (accepted (needed c checksum)))
+
+-- the same, as the code answers it
+abbrev pub wroteOf : Answer ℕ → Wrote
+wroteOf (accepted n) = wrote.Done n
+wroteOf (refused r) = wrote.Refused r
 
 -- the message at the start of the lent memory, the rest as it was; a refusal writes nothing
 unfoldable pub leftBy : {A : Type 0} → Codec A → Bool → A → List ℕ → List ℕ

@@ -15,6 +15,12 @@ pub struct Sum {
     pub low: u8,
 }
 
+// What a writer of a message answers: the count of bytes written, or the refusal that wrote none.
+pub enum Wrote {
+    Done(usize),
+    Refused(Refusal),
+}
+
 // The exclusive-or of FF hex and each byte.
 fn xor_of(s: &[u8]) -> u8
     ensures { λ r. ⌜ r ≡ xorFrom 255 (now (s .entry)) ⌝ }

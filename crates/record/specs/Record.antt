@@ -3,12 +3,16 @@ use Prim.Native.Nat.{ℕ}
 use mathlib.Core.Bool.{Bool, _&&_}
 use mathlib.Core.List.{List}
 use lib.Dec.{leb, eqb}
-use lib.ListN.{length}
+use lib.IntN.{pos}
+use lib.ListN.{length, replicate}
+use Rattle.refusal.specs.Answer.{Answer, accepted, refused}
+use Rattle.refusal.specs.declared.Verdict.the-variants.{Done, Refused}
 use Rattle.sign.specs.Sign.{size}
 use Rattle.codec.specs.Codec.{failing, first, printable}
 use Rattle.stop.specs.Stop.{stopOk}
 use Rattle.record.specs.declared.Figures.{Figures}
 use Rattle.record.specs.declared.Record.{Record}
+use Rattle.record.specs.declared.RecordRead.{RecordRead}
 
 -- the highest distance, and how far the pupil reaches from zero
 abbrev pub topDistance : ℕ
@@ -46,3 +50,24 @@ figuresLowest top most f = first (frontLowest top f) (first (middleLowest top f)
 -- and field 12: nine bytes, each 20..7E hex
 unfoldable pub recordLowest : Record → ℕ
 recordLowest r = first (figuresLowest topDistance topPupil (r .figures)) (failing (eqb (length (r .serial)) 9 && printable (r .serial)) 12)
+
+-- ---- what a reader of a record answers: the record, or a refusal beside a record of zeros
+
+abbrev pub noFigures : Figures
+noFigures = record {
+  focus = 0;
+  aperture = 0;
+  stop = 0;
+  tenth = 0;
+  focal = 0;
+  hyperfocal = 0;
+  near = 0;
+  far = 0;
+  view = 0;
+  pupil = pos 0;
+  zoom = 0;
+}
+
+abbrev pub recordRead : Answer Record → RecordRead
+recordRead (accepted r) = record { verdict = Done; contents = r }
+recordRead (refused x) = record { verdict = Refused x; contents = record { figures = noFigures; serial = replicate 9 0 } }

@@ -1,7 +1,10 @@
 // A record by value: its fields, what may be sent, and the two forms as definitions. The ranges are
 // what both forms hold, so one rule serves both.
+use refusal::Refusal;
+use refusal::Verdict;
 ghost use mathlib.Core.Path.{_≡_};
-ghost use Rattle.record.specs.Record.{frontLowest, middleLowest, backLowest, figuresLowest, recordLowest};
+ghost use Rattle.refusal.specs.Answer.{accepted, refused};
+ghost use Rattle.record.specs.Record.{frontLowest, middleLowest, backLowest, figuresLowest, recordLowest, recordRead};
 
 // Fields 1 to 11: what a record and a measurement share.
 pub struct Figures {
@@ -33,6 +36,49 @@ pub struct Figures {
 pub struct Record {
     pub figures: Figures,
     pub serial: [u8; 9],
+}
+
+// What a reader of a record answers. On a refusal the record is zero.
+pub struct RecordRead {
+    pub verdict: Verdict,
+    pub contents: Record,
+}
+
+// A record read.
+pub fn accepted_record(r: Record) -> RecordRead
+    ensures { λ a. ⌜ a ≡ recordRead (accepted r) ⌝ }
+{
+    RecordRead {
+        verdict: Verdict::Done,
+        contents: r,
+    }
+}
+
+// A message refused.
+pub fn refused_record(r: Refusal) -> RecordRead
+    ensures { λ a. ⌜ a ≡ recordRead (refused r) ⌝ }
+{
+    let figures = Figures {
+        focus: 0,
+        aperture: 0,
+        stop: 0,
+        tenth: 0,
+        focal: 0,
+        hyperfocal: 0,
+        near: 0,
+        far: 0,
+        view: 0,
+        pupil: 0,
+        zoom: 0,
+    };
+    let contents = Record {
+        figures,
+        serial: [0; 9],
+    };
+    RecordRead {
+        verdict: Verdict::Refused(r),
+        contents,
+    }
 }
 
 // The lowest of fields 1 to 4 that is out of range, or 0; distances reach as far as top.
