@@ -1,0 +1,4 @@
+pub mod Range
+pub mod Bytes
+pub mod Laws
+pub mod Unique
