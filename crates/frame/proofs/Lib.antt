@@ -1,3 +1,5 @@
 pub mod Exactly
 pub mod Answers
+pub mod Left
+pub mod Faithful
 pub mod Unique

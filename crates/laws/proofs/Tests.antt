@@ -34,6 +34,13 @@ and-right false b h = absurd (false≢true h)
 pub and-both : {a b : Bool} → a ≡ true → b ≡ true → (a && b) ≡ true
 and-both p q = λ i. p i && q i
 
+-- a chain of tests, one early return each: this one failed, or it held and the rest decides
+pub and-fails : {a : Bool} (b : Bool) → a ≡ false → false ≡ (a && b)
+and-fails b e = sym (ap (λ (t : Bool). t && b) e)
+
+pub and-goes : {a b r : Bool} → a ≡ true → r ≡ b → r ≡ (a && b)
+and-goes {a} {b} {r} e h = h ∙ sym (ap (λ (t : Bool). t && b) e)
+
 -- a test holds or fails
 pub told : {C : Type 0} (b : Bool) → (b ≡ true → C) → (b ≡ false → C) → C
 told true f g = f refl

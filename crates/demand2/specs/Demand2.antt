@@ -1,0 +1,35 @@
+-- Demand 2: "Each reply, text record, packed record, checksum and unit conversion is exactly what the Cooke documents and document 01 define. A reader
+-- accepts exactly the messages the writer writes for sendable contents, and gives those contents back." Statements only.
+use Prim.Native.Nat.{ℕ}
+use mathlib.Core.Bool.{Bool, true, false, _&&_}
+use mathlib.Core.List.{List}
+use mathlib.Core.Path.{_≡_}
+use lib.Dec.{eqb}
+use lib.IntN.{ℤ}
+use lib.ListN.{length}
+use Rattle.refusal.specs.Answer.{accepted}
+use Rattle.refusal.specs.declared.Refusal.the-variants.{Field, Setting}
+use Rattle.refusal.specs.declared.Verdict.the-variants.{Done}
+use Rattle.codec.specs.Codec.{printable}
+use Rattle.frame.specs.Faithful.{Faithful}
+use Rattle.record.specs.Record.{recordLowest}
+use Rattle.record.specs.Forms.{textForm, packedForm}
+use Rattle.fixed.specs.Fixed.{fixedLowest}
+use Rattle.fixed.specs.Form.{fixedForm}
+use Rattle.units.specs.Units.{isUnit, Converts, conversion}
+use Rattle.units.specs.Measurement.{measurementVerdict, recordIn}
+use Rattle.units.specs.declared.Measurement.{Measurement}
+
+pub record Demand2 : Type 0 where
+  -- the text record, 76 or 78 bytes; the packed record, 41 or 43; one rule for both
+  pub text : Faithful textForm recordLowest Field 76
+  pub packed : Faithful packedForm recordLowest Field 41
+  -- the fixed data, 67 or 69
+  pub fixed : Faithful fixedForm fixedLowest Setting 67
+  -- "1 unit of 0.1 inch is exactly 2.54 mm, nearest whole number, halves away from zero", in either direction
+  pub converts : (field : ℕ) (z r : ℤ) (unit wanted : ℕ) → conversion field z unit wanted ≡ accepted r → Converts unit wanted z r
+  -- "alike: number unchanged"
+  pub alike : (field : ℕ) (z r : ℤ) (unit : ℕ) → conversion field z unit unit ≡ accepted r → r ≡ z
+  -- "so each measurement is sendable in either unit": an accepted one, with a serial of nine text bytes
+  pub sendable : (m : Measurement) (display : ℕ) (serial : List ℕ) → measurementVerdict m ≡ Done → isUnit display ≡ true →
+      (eqb (length serial) 9 && printable serial) ≡ true → recordLowest (recordIn display m serial) ≡ 0

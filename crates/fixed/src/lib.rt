@@ -1,0 +1,234 @@
+// The fixed data and the settings by value: their items, and what may be sent.
+use refusal::Refusal;
+use refusal::Verdict;
+ghost use mathlib.Core.Path.{_≡_};
+ghost use Rattle.refusal.specs.Answer.{accepted, refused};
+ghost use Rattle.fixed.specs.Fixed.{kindOk, letterOk, blurOk, textOk, lensLowest, fixedLowest, settingsLowest, fixedOf, filled, fixedRead, givenOf};
+
+// Items 1 to 8: what the N message carries.
+pub struct Fixed {
+    // 1
+    pub serial: [u8; 9],
+    // 2
+    pub owner: [u8; 31],
+    // 3: the lens type, P or Z
+    pub kind: u8,
+    // 4: the focal length
+    pub focal: u32,
+    // 5
+    pub maximum: u32,
+    // 6: the start-up letter, I, M, B or b
+    pub letter: u8,
+    // 7
+    pub transmission: u32,
+    // 8
+    pub version: [u8; 4],
+}
+
+// Items 3 to 7: what is no text.
+pub struct Lens {
+    pub kind: u8,
+    pub focal: u32,
+    pub maximum: u32,
+    pub letter: u8,
+    pub transmission: u32,
+}
+
+// Items 1 to 11.
+pub struct Settings {
+    pub fixed: Fixed,
+    // 9
+    pub maker: [u8; 15],
+    // 10
+    pub type_name: [u8; 30],
+    // 11: in units of 0.0001 mm
+    pub blur: [u16; 32],
+}
+
+// What hands fixed data back: done, or a refusal, and then the items are zero.
+pub struct FixedRead {
+    pub verdict: Verdict,
+    pub contents: Fixed,
+}
+
+// Fixed data handed back.
+pub fn accepted_fixed(f: Fixed) -> FixedRead
+    ensures { λ r. ⌜ r ≡ fixedRead (accepted f) ⌝ }
+{
+    FixedRead {
+        verdict: Verdict::Done,
+        contents: f,
+    }
+}
+
+// Fixed data refused.
+pub fn refused_fixed(r: Refusal) -> FixedRead
+    ensures { λ a. ⌜ a ≡ fixedRead (refused r) ⌝ }
+{
+    let contents = Fixed {
+        serial: [0; 9],
+        owner: [0; 31],
+        kind: 0,
+        focal: 0,
+        maximum: 0,
+        letter: 0,
+        transmission: 0,
+        version: [0; 4],
+    };
+    FixedRead {
+        verdict: Verdict::Refused(r),
+        contents,
+    }
+}
+
+// Whether a byte is a lens type.
+pub fn is_kind(b: u8) -> bool
+    ensures { λ r. ⌜ r ≡ kindOk b ⌝ }
+{
+    (b == b'P') | (b == b'Z')
+}
+
+// Whether a byte is a start-up letter.
+pub fn is_letter(b: u8) -> bool
+    ensures { λ r. ⌜ r ≡ letterOk b ⌝ }
+{
+    (b == b'I') | (b == b'M') | (b == b'B') | (b == b'b')
+}
+
+// Whether a text has its length and only bytes that may stand in one.
+fn is_item(s: &[u8], long: usize) -> bool
+    ensures { λ r. ⌜ r ≡ textOk long (now (s .entry)) ⌝ }
+{
+    let printable = codec::is_text(s);
+    (s.len() == long) & printable
+}
+
+// Whether every blur circle is in range.
+fn is_blur(s: &[u16]) -> bool
+    ensures { λ r. ⌜ r ≡ blurOk (now (s .entry)) ⌝ }
+{
+    let mut i = 0;
+    while i < s.len() {
+        if 999 < s[i] {
+            return false;
+        }
+        i += 1;
+    }
+    true
+}
+
+// The lowest of items 3 to 7 that is out of range, or 0.
+fn lowest_of_lens(l: Lens) -> u32
+    ensures { λ i. ⌜ i ≡ lensLowest l ⌝ }
+{
+    if !is_kind(l.kind) {
+        return 3;
+    }
+    if 999 < l.focal {
+        return 4;
+    }
+    if 999 < l.maximum {
+        return 5;
+    }
+    if !is_letter(l.letter) {
+        return 6;
+    }
+    if 99 < l.transmission {
+        return 7;
+    }
+    0
+}
+
+// The lowest of items 1 to 8 that is out of range, or 0; a text of another length is out of range.
+fn lowest_given(serial: &[u8], owner: &[u8], lens: Lens, version: &[u8]) -> u32
+    ensures { λ i. ⌜ i ≡ fixedLowest (fixedOf (now (serial .entry)) (now (owner .entry)) lens (now (version .entry))) ⌝ }
+{
+    if !is_item(serial, 9) {
+        return 1;
+    }
+    if !is_item(owner, 31) {
+        return 2;
+    }
+    let lowest = lowest_of_lens(lens);
+    if lowest != 0 {
+        return lowest;
+    }
+    if !is_item(version, 4) {
+        return 8;
+    }
+    0
+}
+
+// The lowest item out of range, or 0 where the fixed data may be sent.
+pub fn lowest_item(f: Fixed) -> u32
+    ensures { λ i. ⌜ i ≡ fixedLowest f ⌝ }
+{
+    let serial = f.serial;
+    let owner = f.owner;
+    let version = f.version;
+    let lens = Lens {
+        kind: f.kind,
+        focal: f.focal,
+        maximum: f.maximum,
+        letter: f.letter,
+        transmission: f.transmission,
+    };
+    lowest_given(&serial, &owner, lens, &version)
+}
+
+// The lowest item out of range, or 0 where a port may start with these settings.
+pub fn lowest_setting(s: Settings) -> u32
+    ensures { λ i. ⌜ i ≡ settingsLowest s ⌝ }
+{
+    let fixed = s.fixed;
+    let lowest = lowest_item(fixed);
+    if lowest != 0 {
+        return lowest;
+    }
+    let maker = s.maker;
+    if !is_item(&maker, 15) {
+        return 9;
+    }
+    let type_name = s.type_name;
+    if !is_item(&type_name, 30) {
+        return 10;
+    }
+    let blur = s.blur;
+    if !is_blur(&blur) {
+        return 11;
+    }
+    0
+}
+
+// The items put together. A text that is longer than its item is left out; a shorter one has zeros behind it.
+pub fn fixed_from(serial: &[u8], owner: &[u8], lens: Lens, version: &[u8]) -> Fixed
+    ensures { λ f. ⌜ f ≡ fixedOf (filled 9 (now (serial .entry))) (filled 31 (now (owner .entry))) lens (filled 4 (now (version .entry))) ⌝ }
+{
+    let mut nine = [0; 9];
+    lent::put_text(&mut nine, 0, serial);
+    let mut thirty_one = [0; 31];
+    lent::put_text(&mut thirty_one, 0, owner);
+    let mut four = [0; 4];
+    lent::put_text(&mut four, 0, version);
+    Fixed {
+        serial: nine,
+        owner: thirty_one,
+        kind: lens.kind,
+        focal: lens.focal,
+        maximum: lens.maximum,
+        letter: lens.letter,
+        transmission: lens.transmission,
+        version: four,
+    }
+}
+
+// The fixed data of items that are handed in one by one: 8 with the lowest item out of range, texts of another length too.
+pub fn fixed_of(serial: &[u8], owner: &[u8], lens: Lens, version: &[u8]) -> FixedRead
+    ensures { λ r. ⌜ r ≡ fixedRead (givenOf (fixedOf (now (serial .entry)) (now (owner .entry)) lens (now (version .entry)))) ⌝ }
+{
+    let lowest = lowest_given(serial, owner, lens, version);
+    if lowest != 0 {
+        return refused_fixed(Refusal::Setting(lowest));
+    }
+    accepted_fixed(fixed_from(serial, owner, lens, version))
+}

@@ -1,0 +1,5 @@
+pub mod Letters
+pub mod Parts
+pub mod Owner
+pub mod Promises
+pub mod Unique

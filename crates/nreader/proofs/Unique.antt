@@ -1,0 +1,25 @@
+-- One answer for each contract of this crate. Assumes nothing.
+use Prim.Native.Nat.{ℕ}
+use mathlib.Core.Bool.{Bool}
+use mathlib.Core.List.{List}
+use mathlib.Core.Path.{_≡_}
+use denote.Ref.{RefT}
+use Rattle.laws.proofs.OneAnswer.{one-answer}
+use Rattle.frame.specs.Message.{readOf}
+use Rattle.fixed.specs.Fixed.{fixedRead}
+use Rattle.fixed.specs.Form.{fixedForm}
+use Rattle.fixed.specs.declared.FixedRead.{FixedRead}
+use Rattle.nreader.specs.Reader.{ownerAt, ownerLength, PartIs}
+
+pub one-read-fixed : (m : List ℕ) (checksum : Bool) {r r′ : FixedRead} → r ≡ fixedRead (readOf fixedForm checksum m) → r′ ≡ fixedRead (readOf fixedForm checksum m) → r ≡ r′
+one-read-fixed m checksum = one-answer
+
+-- two parts at one place with the same bytes; a reference's ghost name is no machine value, and nothing fixes it
+pub one-part : {m : RefT (List ℕ)} {a n : ℕ} {r r′ : RefT (List ℕ)} → PartIs m a n r → PartIs m a n r′ → (r .ptr ≡ r′ .ptr) × (r .now ≡ r′ .now)
+one-part p q = (one-answer (p .place) (q .place), one-answer (p .bytes) (q .bytes))
+
+pub one-owner-part : (m : RefT (List ℕ)) (checksum : Bool) {r r′ : RefT (List ℕ)} →
+    PartIs m (ownerAt (readOf fixedForm checksum (m .now))) (ownerLength (readOf fixedForm checksum (m .now))) r →
+    PartIs m (ownerAt (readOf fixedForm checksum (m .now))) (ownerLength (readOf fixedForm checksum (m .now))) r′ →
+    (r .ptr ≡ r′ .ptr) × (r .now ≡ r′ .now)
+one-owner-part m checksum = one-part

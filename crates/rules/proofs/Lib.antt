@@ -1,0 +1,6 @@
+pub mod Valid
+pub mod Readings
+pub mod Lengths
+pub mod Kept
+pub mod Demand3
+pub mod Tight

@@ -1,0 +1,5 @@
+pub mod Does
+pub mod Lens
+pub mod Readings
+pub mod Promise
+pub mod Tight

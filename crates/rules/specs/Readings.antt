@@ -1,0 +1,57 @@
+-- Readings of document 01's table that have gone wrong, and the equations that shut them out.
+use Prim.Native.Nat.{ℕ, _<_}
+use mathlib.Core.Bool.{true, false}
+use mathlib.Core.List.{[], _∷_}
+use mathlib.Core.Path.{_≡_}
+use lib.IntN.{pos, negsuc}
+use Rattle.line.specs.declared.Command.{Command}
+use Rattle.line.specs.declared.Command.the-variants.{C, G, H, Ka, Kb, Kc, «V», W, X, Y, Unknown}
+use Rattle.state.specs.declared.Sending.the-variants as sending
+use Rattle.state.specs.declared.Source.{Source}
+use Rattle.rules.specs.Does.{degrees, runs, isN, readies}
+use Rattle.rules.specs.Lens.{lens}
+
+-- what no switch touches
+pub record Untouched (s t : Source) : Type 0 where
+  pub settings : t .settings ≡ s .settings
+  pub measurement : t .measurement ≡ s .measurement
+  pub film : t .modes .film ≡ s .modes .film
+  pub unit : t .modes .unit ≡ s .modes .unit
+  pub rate : t .modes .rate ≡ s .modes .rate
+  pub next-rate : t .modes .«next_rate» ≡ s .modes .«next_rate»
+
+-- all modes off
+pub record Quiet (t : Source) : Type 0 where
+  pub sending : t .modes .sending ≡ sending.Off
+  pub checksum : t .modes .checksum ≡ false
+  pub inhibit : t .modes .inhibit ≡ false
+
+pub record Readings (s : Source) : Type 0 where
+  -- replies are written under the modes after the command, the checksum not over LF CR: G answers !MN, H plain !
+  pub g-answers : runs s G .reply ≡ 33 ∷ 77 ∷ 78 ∷ 10 ∷ 13 ∷ []
+  pub h-answers : runs s H .reply ≡ 33 ∷ 10 ∷ 13 ∷ []
+  -- no switch resets units or film
+  pub c-keeps : Untouched s (runs s C .source)
+  pub kc-keeps : Untouched s (runs s Kc .source)
+  pub g-keeps : Untouched s (runs s G .source)
+  pub ka-keeps : Untouched s (runs s Ka .source)
+  pub h-keeps : Untouched s (runs s H .source)
+  pub h-quiet : Quiet (runs s H .source)
+  -- the start-up letter: I and M stay, B or b becomes B by X, b by Y
+  pub i-stays : s .settings .fixed .letter ≡ 73 → (runs s X .source .settings .fixed .letter ≡ 73) × (runs s Y .source .settings .fixed .letter ≡ 73)
+  pub m-stays : s .settings .fixed .letter ≡ 77 → (runs s X .source .settings .fixed .letter ≡ 77) × (runs s Y .source .settings .fixed .letter ≡ 77)
+  pub b-turns : s .settings .fixed .letter ≡ 98 → (runs s X .source .settings .fixed .letter ≡ 66) × (runs s Y .source .settings .fixed .letter ≡ 98)
+  pub capital-b-turns : s .settings .fixed .letter ≡ 66 → (runs s X .source .settings .fixed .letter ≡ 66) × (runs s Y .source .settings .fixed .letter ≡ 98)
+  -- V and W set the film that they name
+  pub v-film : runs s «V» .source .modes .film ≡ 0
+  pub w-film : (n : ℕ) → runs s (W n) .source .modes .film ≡ n
+  -- the rate number changes at the end of Kb's reply, not before
+  pub rate-waits : (n : ℕ) → runs s (Kb n) .source .modes .rate ≡ s .modes .rate
+  pub rate-moves : (n : ℕ) → lens .ended (runs s (Kb n) .source) .modes .rate ≡ n
+  -- below 0 sends 00, above 99 sends 99
+  pub cold : (n : ℕ) → degrees (negsuc n) ≡ 48 ∷ 48 ∷ []
+  pub hot : (n : ℕ) → 99 < n → degrees (pos n) ≡ 57 ∷ 57 ∷ []
+  -- inhibited, an unknown command has no reply
+  pub inhibited : s .modes .inhibit ≡ true → runs s Unknown .reply ≡ []
+  -- in ready all but N do nothing
+  pub ready-stays : (c : Command) → isN c ≡ false → readies s c .source ≡ s

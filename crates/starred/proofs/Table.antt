@@ -1,0 +1,31 @@
+-- The starred figures, computed by the checker. Assumes nothing.
+use mathlib.Core.Path.{refl}
+use Rattle.refusal.specs.Answer.{unless}
+use Rattle.digits.specs.Digits.{digits}
+use Rattle.frame.specs.Frame.{xorFrom, sumOf}
+use Rattle.pointed.specs.Pointed.{pointed}
+use Rattle.stop.specs.Stop.{stopText, stop, pair}
+use Rattle.pupil.specs.Pupil.{pupilText, pupilPacked}
+use Rattle.record.specs.Forms.{frontText, middleText, backText, frontPacked, middlePacked, backPacked, serial, textForm, packedForm}
+use Rattle.units.specs.Units.{byUnit, sizeIn, numberIn, inRange, conversion}
+use Rattle.starred.specs.Starred.{recordR, textR, packedR, Starred}
+
+pub starred : Starred
+unfolding recordR textR packedR digits xorFrom sumOf pointed stopText stop pair pupilText pupilPacked frontText middleText backText frontPacked middlePacked backPacked serial textForm packedForm unless byUnit sizeIn numberIn inRange conversion
+starred = record {
+  record-as-text = refl;
+  record-packed = refl;
+  sum-of-bang = refl;
+  sum-of-query = refl;
+  distance-388 = refl;
+  distance-9999999 = refl;
+  pupil-37 = refl;
+  pupil-minus-37 = refl;
+  pupil-minus-999 = refl;
+  zoom-1000 = refl;
+  stop-250-tenth-9 = refl;
+  mm-1000 = refl;
+  mm-9999999 = refl;
+  inch-25 = refl;
+  inch-minus-25 = refl;
+}

@@ -1,0 +1,68 @@
+-- Document 01's bench figures marked *: one table, one statement.
+use Prim.Native.Nat.{ℕ}
+use mathlib.Core.List.{List, [], _∷_}
+use mathlib.Core.Path.{_≡_}
+use lib.IntN.{ℤ, pos, negsuc}
+use Rattle.refusal.specs.Answer.{Answer, accepted}
+use Rattle.digits.specs.Digits.{groups}
+use Rattle.frame.specs.Frame.{sumOf}
+use Rattle.frame.specs.declared.Sum.{Sum}
+use Rattle.stop.specs.Stop.{pair}
+use Rattle.pupil.specs.Pupil.{pupilPacked}
+use Rattle.record.specs.Forms.{textForm, packedForm}
+use Rattle.record.specs.declared.Record.{Record}
+use Rattle.units.specs.Units.{conversion}
+
+-- 798, 680, 56, 5, 0, 6123, 711, 909, 273, 23, 0, 4050.0093
+unfoldable pub recordR : Record
+recordR = record {
+  figures = record {
+    focus = 798;
+    aperture = 680;
+    stop = 56;
+    tenth = 5;
+    focal = 0;
+    hyperfocal = 6123;
+    near = 711;
+    far = 909;
+    view = 273;
+    pupil = pos 23;
+    zoom = 0;
+  };
+  serial = 0x34 ∷ 0x30 ∷ 0x35 ∷ 0x30 ∷ 0x2E ∷ 0x30 ∷ 0x30 ∷ 0x39 ∷ 0x33 ∷ [];
+}
+
+-- D0000798T0680t5.6+5Z0000H0006123N0000711F0000909V027.3E+023z0000S4050.0093
+unfoldable pub textR : List ℕ
+textR =
+    0x44 ∷ 0x30 ∷ 0x30 ∷ 0x30 ∷ 0x30 ∷ 0x37 ∷ 0x39 ∷ 0x38 ∷ 0x54 ∷ 0x30 ∷ 0x36 ∷ 0x38 ∷ 0x30 ∷ 0x74 ∷ 0x35 ∷ 0x2E ∷ 0x36 ∷ 0x2B ∷ 0x35 ∷
+    0x5A ∷ 0x30 ∷ 0x30 ∷ 0x30 ∷ 0x30 ∷ 0x48 ∷ 0x30 ∷ 0x30 ∷ 0x30 ∷ 0x36 ∷ 0x31 ∷ 0x32 ∷ 0x33 ∷ 0x4E ∷ 0x30 ∷ 0x30 ∷ 0x30 ∷ 0x30 ∷ 0x37 ∷
+    0x31 ∷ 0x31 ∷ 0x46 ∷ 0x30 ∷ 0x30 ∷ 0x30 ∷ 0x30 ∷ 0x39 ∷ 0x30 ∷ 0x39 ∷ 0x56 ∷ 0x30 ∷ 0x32 ∷ 0x37 ∷ 0x2E ∷ 0x33 ∷ 0x45 ∷ 0x2B ∷ 0x30 ∷
+    0x32 ∷ 0x33 ∷ 0x7A ∷ 0x30 ∷ 0x30 ∷ 0x30 ∷ 0x30 ∷ 0x53 ∷ 0x34 ∷ 0x30 ∷ 0x35 ∷ 0x30 ∷ 0x2E ∷ 0x30 ∷ 0x30 ∷ 0x39 ∷ 0x33 ∷
+    []
+
+unfoldable pub packedR : List ℕ
+packedR =
+    0x64 ∷ 0x40 ∷ 0x40 ∷ 0x4C ∷ 0x5E ∷ 0x4A ∷ 0x68 ∷ 0xB8 ∷ 0x85 ∷ 0x40 ∷ 0x40 ∷ 0x40 ∷ 0x41 ∷
+    0x5F ∷ 0x6B ∷ 0x40 ∷ 0x40 ∷ 0x4B ∷ 0x47 ∷ 0x40 ∷ 0x40 ∷ 0x4E ∷ 0x4D ∷ 0x44 ∷ 0x51 ∷ 0x40 ∷
+    0x57 ∷ 0x40 ∷ 0x40 ∷ 0x53 ∷ 0x34 ∷ 0x30 ∷ 0x35 ∷ 0x30 ∷ 0x2E ∷ 0x30 ∷ 0x30 ∷ 0x39 ∷ 0x33 ∷
+    []
+
+-- I is 73, M is 77; field 1 is a distance, field 10 the pupil
+pub record Starred : Type 0 where
+  pub record-as-text : textForm .print recordR ≡ textR
+  pub record-packed : packedForm .print recordR ≡ packedR
+  -- `!` is `MN`, `?` is `L@`
+  pub sum-of-bang : sumOf (0x21 ∷ []) ≡ record { high = 0x4D; low = 0x4E }
+  pub sum-of-query : sumOf (0x3F ∷ []) ≡ record { high = 0x4C; low = 0x40 }
+  pub distance-388 : groups 4 388 ≡ 0x40 ∷ 0x40 ∷ 0x46 ∷ 0x44 ∷ []
+  pub distance-9999999 : groups 4 9999999 ≡ 0x66 ∷ 0x49 ∷ 0x59 ∷ 0x7F ∷ []
+  pub pupil-37 : pupilPacked .print (pos 37) ≡ 0x40 ∷ 0x65 ∷ []
+  pub pupil-minus-37 : pupilPacked .print (negsuc 36) ≡ 0x60 ∷ 0x65 ∷ []
+  pub pupil-minus-999 : pupilPacked .print (negsuc 998) ≡ 0x6F ∷ 0x67 ∷ []
+  pub zoom-1000 : groups 2 1000 ≡ 0x4F ∷ 0x68 ∷ []
+  pub stop-250-tenth-9 : pair .print (250, 9) ≡ 0xFA ∷ 0xC9 ∷ []
+  pub mm-1000 : conversion 1 (pos 1000) 77 73 ≡ accepted (pos 394)
+  pub mm-9999999 : conversion 1 (pos 9999999) 77 73 ≡ accepted (pos 3937007)
+  pub inch-25 : conversion 1 (pos 25) 73 77 ≡ accepted (pos 64)
+  pub inch-minus-25 : conversion 10 (negsuc 24) 73 77 ≡ accepted (negsuc 63)

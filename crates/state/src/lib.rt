@@ -1,0 +1,102 @@
+// The parts of the port's state by value, and what a handed-in part must be (refusal 16).
+use fixed::Settings;
+use line::Line;
+use refusal::Verdict;
+use units::Measurement;
+ghost use mathlib.Core.Path.{_≡_};
+ghost use Rattle.state.specs.State.{isDone, validModes, validMessage, validSource};
+
+// The bytes that the message under way sits in.
+pub const MESSAGE_LENGTH: usize = 128;
+
+pub enum State {
+    Ready,
+    Running,
+}
+
+// Continuous sending.
+pub enum Sending {
+    Off,
+    Text,
+    Packed,
+}
+
+// What was sent last, or is under way.
+pub enum Last {
+    Neither,
+    Record,
+    Reply,
+}
+
+pub struct Modes {
+    pub state: State,
+    pub sending: Sending,
+    pub checksum: bool,
+    pub inhibit: bool,
+    // 00..31
+    pub film: u8,
+    // the display unit, I or M
+    pub unit: u8,
+    // 0..7, and the one that follows when the message under way ends
+    pub rate: u8,
+    pub next_rate: u8,
+}
+
+// All that a message is made of.
+pub struct Source {
+    pub settings: Settings,
+    pub measurement: Measurement,
+    pub modes: Modes,
+}
+
+// The message under way: its bytes, how many they are, and the place of the next one to be sent. None
+// is under way where the place is the length.
+pub struct Message {
+    pub bytes: [u8; MESSAGE_LENGTH],
+    pub len: usize,
+    pub at: usize,
+}
+
+// The waiting place: whether a command waits, and the line as it was taken.
+pub struct Waiting {
+    pub some: bool,
+    pub line: Line,
+}
+
+fn valid_modes(m: Modes) -> bool
+    ensures { λ r. ⌜ r ≡ validModes m ⌝ }
+{
+    (m.film <= 31) & (((m.unit == b'I') | (m.unit == b'M')) & ((m.rate <= 7) & (m.next_rate <= 7)))
+}
+
+fn is_done(v: Verdict) -> bool
+    ensures { λ r. ⌜ r ≡ isDone v ⌝ }
+{
+    match v {
+        Verdict::Done => true,
+        Verdict::Refused(_) => false,
+    }
+}
+
+// Whether the message's counts are within the buffer and the message.
+pub fn valid_message(m: Message) -> bool
+    ensures { λ r. ⌜ r ≡ validMessage m ⌝ }
+{
+    (m.len <= MESSAGE_LENGTH) & (m.at <= m.len)
+}
+
+// Whether the settings, the measurement and the modes are in their ranges.
+pub fn valid_source(s: Source) -> bool
+    ensures { λ r. ⌜ r ≡ validSource s ⌝ }
+{
+    let settings = s.settings;
+    if fixed::lowest_setting(settings) != 0 {
+        return false;
+    }
+    let measurement = s.measurement;
+    if !is_done(units::check_measurement(measurement)) {
+        return false;
+    }
+    let modes = s.modes;
+    valid_modes(modes)
+}

@@ -1,0 +1,4 @@
+pub mod Chains
+pub mod Written
+pub mod Parts
+pub mod Unique

@@ -1,0 +1,4 @@
+pub mod Nearest
+pub mod Ranges
+pub mod Unique
+pub mod Examples

@@ -1,0 +1,51 @@
+-- What a measurement may hold, and the record that it gives in a display unit.
+use Prim.Native.Nat.{ℕ}
+use mathlib.Core.Bool.{Bool, _&&_, cond}
+use mathlib.Core.List.{List}
+use lib.Dec.{eqb}
+use lib.IntN.{ℤ, pos, negsuc}
+use lib.Signed.{leZ}
+use Rattle.refusal.specs.declared.Refusal.the-variants.{Field}
+use Rattle.refusal.specs.declared.Verdict.{Verdict}
+use Rattle.refusal.specs.declared.Verdict.the-variants.{Done, Refused}
+use Rattle.codec.specs.Codec.{failing, first}
+use Rattle.record.specs.Record.{figuresLowest}
+use Rattle.record.specs.declared.Figures.{Figures}
+use Rattle.record.specs.declared.Record.{Record}
+use Rattle.units.specs.Units.{isUnit, topIn, mostIn, sizeIn, numberIn}
+use Rattle.units.specs.declared.Measurement.{Measurement}
+
+-- -99..199 degrees
+abbrev pub temperatureOk : ℤ → Bool
+temperatureOk t = leZ (negsuc 98) t && leZ t (pos 199)
+
+-- the lowest of fields 1 to 11 out of its unit's range, then 13 for the temperature; 0 where there is none
+unfoldable pub measurementLowest : Measurement → ℕ
+measurementLowest m =
+    first (figuresLowest (topIn (m .unit)) (mostIn (m .unit)) (m .figures)) (failing (temperatureOk (m .temperature)) 13)
+
+-- the unit letter before all, as 0
+unfoldable pub measurementVerdict : Measurement → Verdict
+measurementVerdict m =
+    cond (isUnit (m .unit))
+    (cond (eqb (measurementLowest m) 0) Done (Refused (Field (measurementLowest m))))
+    (Refused (Field 0))
+
+-- fields 1, 6, 7, 8 and 10 converted, the others untouched
+unfoldable pub figuresIn : ℕ → ℕ → Figures → Figures
+figuresIn unit wanted f = record {
+  focus = sizeIn unit wanted (f .focus);
+  aperture = f .aperture;
+  stop = f .stop;
+  tenth = f .tenth;
+  focal = f .focal;
+  hyperfocal = sizeIn unit wanted (f .hyperfocal);
+  near = sizeIn unit wanted (f .near);
+  far = sizeIn unit wanted (f .far);
+  view = f .view;
+  pupil = numberIn unit wanted (f .pupil);
+  zoom = f .zoom;
+}
+
+unfoldable pub recordIn : ℕ → Measurement → List ℕ → Record
+recordIn display m serial = record { figures = figuresIn (m .unit) display (m .figures); serial = serial }

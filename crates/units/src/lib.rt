@@ -1,0 +1,193 @@
+// A measurement, the conversion between 0.1 inch (I) and 1 mm (M), and the record that a measurement
+// gives in a display unit.
+use record::Figures;
+use record::Record;
+use refusal::Refusal;
+use refusal::Verdict;
+ghost use mathlib.Core.Path.{_≡_};
+ghost use Prim.Native.Nat.{_≤_};
+ghost use Rattle.refusal.specs.declared.Verdict.the-variants.{Done};
+ghost use Rattle.sign.specs.Sign.{size};
+ghost use Rattle.record.specs.Record.{topDistance, topPupil, figuresLowest};
+ghost use Rattle.units.specs.Units.{isUnit, byUnit, topIn, mostIn, sizeIn, numberIn, isDistance, inRange, Distance, conversion, convertedOf};
+ghost use Rattle.units.specs.Measurement.{temperatureOk, measurementLowest, measurementVerdict, figuresIn, recordIn};
+
+pub struct Measurement {
+    // I or M: the unit of fields 1, 6, 7, 8 and 10
+    pub unit: u8,
+    pub figures: Figures,
+    // in degrees
+    pub temperature: i32,
+}
+
+// What the conversion answers.
+pub enum Converted {
+    Value(i32),
+    Refused(Refusal),
+}
+
+// ---- the units
+
+fn is_unit(u: u8) -> bool
+    ensures { λ r. ⌜ r ≡ isUnit u ⌝ }
+{
+    (u == b'I') | (u == b'M')
+}
+
+// The first for I, the second for M.
+fn by_unit(u: u8, inch: u32, mm: u32) -> u32
+    ensures { λ r. ⌜ r ≡ byUnit u inch mm ⌝ }
+{
+    if u == b'I' { inch } else { mm }
+}
+
+// How far a distance reaches.
+fn top_in(u: u8) -> u32
+    ensures { λ r. ⌜ r ≡ topIn u ⌝ }
+{
+    by_unit(u, 3937007, 9999999)
+}
+
+// How far the pupil reaches from zero.
+fn most_in(u: u8) -> u32
+    ensures { λ r. ⌜ r ≡ mostIn u ⌝ }
+{
+    by_unit(u, 393, 999)
+}
+
+// ---- the conversion
+
+// A size of one unit in the other: the nearest whole number, halves up.
+fn size_in(unit: u8, wanted: u8, n: u32) -> u32
+    requires { ⌜ n ≤ topDistance ⌝ }
+    ensures { λ r. ⌜ r ≡ sizeIn unit wanted n ⌝ }
+{
+    if unit == wanted {
+        return n;
+    }
+    if unit == b'I' {
+        return (254 * n + 50) / 100;
+    }
+    (100 * n + 127) / 254
+}
+
+// The pupil of one unit in the other: halves away from zero.
+fn pupil_in(unit: u8, wanted: u8, e: i32) -> i32
+    requires { ⌜ size e ≤ topPupil ⌝ }
+    ensures { λ r. ⌜ r ≡ numberIn unit wanted e ⌝ }
+{
+    let n = size_in(unit, wanted, sign::size_of(e));
+    sign::signed_of(sign::is_below(e), n as u16)
+}
+
+// A distance of one unit in the other.
+fn distance_in(unit: u8, wanted: u8, d: i32) -> i32
+    requires { ⌜ Distance d ⌝ }
+    ensures { λ r. ⌜ r ≡ numberIn unit wanted d ⌝ }
+{
+    let n = size_in(unit, wanted, sign::size_of(d));
+    n as i32
+}
+
+// Whether the field is a distance.
+fn is_distance(field: u32) -> bool
+    ensures { λ r. ⌜ r ≡ isDistance field ⌝ }
+{
+    ((field == 1) | (field == 6)) | ((field == 7) | (field == 8))
+}
+
+// Whether the field is one that is converted, and the number in its unit's range.
+fn in_range(field: u32, number: i32, unit: u8) -> bool
+    ensures { λ r. ⌜ r ≡ inRange field number unit ⌝ }
+{
+    let n = sign::size_of(number);
+    if field == 10 {
+        return n <= most_in(unit);
+    }
+    is_distance(field) & (!sign::is_below(number) & (n <= top_in(unit)))
+}
+
+// A number of a field in the wanted unit.
+pub fn convert(field: u32, number: i32, unit: u8, wanted: u8) -> Converted
+    ensures { λ r. ⌜ r ≡ convertedOf (conversion field number unit wanted) ⌝ }
+{
+    if !(is_unit(unit) & is_unit(wanted)) {
+        return Converted::Refused(Refusal::Field(0));
+    }
+    if !in_range(field, number, unit) {
+        return Converted::Refused(Refusal::Field(field));
+    }
+    if field == 10 {
+        return Converted::Value(pupil_in(unit, wanted, number));
+    }
+    Converted::Value(distance_in(unit, wanted, number))
+}
+
+// ---- the measurement
+
+fn temperature_ok(t: i32) -> bool
+    ensures { λ r. ⌜ r ≡ temperatureOk t ⌝ }
+{
+    (-99 <= t) & (t <= 199)
+}
+
+// The lowest of fields 1 to 11, then 13, that is out of range, or 0.
+fn lowest_of(m: Measurement) -> u32
+    ensures { λ r. ⌜ r ≡ measurementLowest m ⌝ }
+{
+    let figures = m.figures;
+    let lowest = record::lowest_figure(figures, top_in(m.unit), most_in(m.unit));
+    if lowest != 0 {
+        return lowest;
+    }
+    let t = m.temperature;
+    if !temperature_ok(t) {
+        return 13;
+    }
+    0
+}
+
+// Whether a measurement may be taken.
+pub fn check_measurement(m: Measurement) -> Verdict
+    ensures { λ r. ⌜ r ≡ measurementVerdict m ⌝ }
+{
+    if !is_unit(m.unit) {
+        return Verdict::Refused(Refusal::Field(0));
+    }
+    let lowest = lowest_of(m);
+    if lowest != 0 {
+        return Verdict::Refused(Refusal::Field(lowest));
+    }
+    Verdict::Done
+}
+
+// Fields 1 to 11 in the display unit.
+fn figures_in(f: Figures, unit: u8, display: u8) -> Figures
+    requires { ⌜ figuresLowest (topIn unit) (mostIn unit) f ≡ 0 ⌝ }
+    ensures { λ r. ⌜ r ≡ figuresIn unit display f ⌝ }
+{
+    let e = f.pupil;
+    Figures {
+        focus: size_in(unit, display, f.focus),
+        aperture: f.aperture,
+        stop: f.stop,
+        tenth: f.tenth,
+        focal: f.focal,
+        hyperfocal: size_in(unit, display, f.hyperfocal),
+        near: size_in(unit, display, f.near),
+        far: size_in(unit, display, f.far),
+        view: f.view,
+        pupil: pupil_in(unit, display, e),
+        zoom: f.zoom,
+    }
+}
+
+// The record of an accepted measurement in the display unit.
+pub fn record_of(m: Measurement, display: u8, serial: [u8; 9]) -> Record
+    requires { ⌜ measurementVerdict m ≡ Done ⌝ }
+    ensures { λ r. ⌜ r ≡ recordIn display m serial ⌝ }
+{
+    let f = m.figures;
+    let figures = figures_in(f, m.unit, display);
+    Record { figures, serial }
+}
