@@ -1,0 +1,109 @@
+-- What a C host is handed: document 01's number and the value beside it; and what each entry leaves in its memory.
+use Prim.Native.Nat.{ℕ, _+_, _*_}
+use mathlib.Core.Bool.{Bool}
+use mathlib.Core.List.{List}
+use lib.Dec.{leb, eqb}
+use lib.IntN.{ℤ, pos}
+use lib.ListN.{length}
+use Rattle.laws.specs.Gives.{Gives}
+use Rattle.laws.specs.Over.{over}
+use Rattle.refusal.specs.Refusal.{numberOf, valueOf}
+use Rattle.refusal.specs.Answer.{Answer, accepted, refused, unless}
+use Rattle.refusal.specs.declared.Refusal.{Refusal}
+use Rattle.refusal.specs.declared.Refusal.the-variants.{Field, Room}
+use Rattle.codec.specs.Codec.{Codec}
+use Rattle.frame.specs.Frame.{sumOf}
+use Rattle.frame.specs.Message.{writeOf, leftBy}
+use Rattle.frame.specs.declared.Wrote.{Wrote}
+use Rattle.frame.specs.declared.Wrote.the-variants as wrote
+use Rattle.record.specs.Record.{recordLowest}
+use Rattle.record.specs.declared.Figures.{Figures}
+use Rattle.record.specs.declared.Record.{Record}
+use Rattle.fixed.specs.declared.Fixed.{Fixed}
+use Rattle.hourheron.specs.declared.Answer as host
+use Rattle.hourheron.specs.declared.Conversion.{Conversion}
+
+-- ---- the answers
+
+-- done: 0 and a count; refused: the refusal's number and value
+abbrev pub answerOf : Answer ℕ → host.Answer
+answerOf (accepted n) = record { number = 0; value = n }
+answerOf (refused x) = record { number = numberOf x; value = valueOf x }
+
+-- the same of what a writer answers
+abbrev pub answerTo : Wrote → host.Answer
+answerTo (wrote.Done n) = answerOf (accepted n)
+answerTo (wrote.Refused x) = answerOf (refused x)
+
+-- done: the number; refused: the field. What does not come with an answer is zero
+abbrev pub conversionOf : Answer ℤ → Conversion
+conversionOf (accepted z) = record { number = 0; field = 0; value = z }
+conversionOf (refused x) = record { number = numberOf x; field = valueOf x; value = pos 0 }
+
+-- first character * 256 + second
+abbrev pub checksumOf : List ℕ → ℕ
+checksumOf s = sumOf s .high * 256 + sumOf s .low
+
+-- ---- a writer: the answer and the memory of any message
+
+abbrev pub Writes : {A : Type 0} → Codec A → (ℕ → Refusal) → Bool → A → List ℕ → host.Answer → List ℕ → Type 0
+Writes form low checksum a out r after = Gives (answerOf (writeOf form low checksum a out)) (leftBy form checksum a out) r after
+
+-- a record of fields and a serial of any length
+abbrev pub recordFrom : ℕ → ℕ → ℕ → ℕ → ℕ → ℕ → ℕ → ℕ → ℕ → ℤ → ℕ → List ℕ → Record
+recordFrom focus aperture stop tenth focal hyperfocal near far view pupil zoom serial = record {
+  figures = record {
+    focus = focus;
+    aperture = aperture;
+    stop = stop;
+    tenth = tenth;
+    focal = focal;
+    hyperfocal = hyperfocal;
+    near = near;
+    far = far;
+    view = view;
+    pupil = pupil;
+    zoom = zoom;
+  };
+  serial = serial;
+}
+
+-- items 1 to 8, texts of any length
+abbrev pub fixedFrom : List ℕ → List ℕ → ℕ → ℕ → ℕ → ℕ → ℕ → List ℕ → Fixed
+fixedFrom serial owner kind focal maximum letter transmission version = record {
+  serial = serial;
+  owner = owner;
+  kind = kind;
+  focal = focal;
+  maximum = maximum;
+  letter = letter;
+  transmission = transmission;
+  version = version;
+}
+
+abbrev pub withSerial : Figures → List ℕ → Record
+withSerial f serial = record { figures = f; serial = serial }
+
+-- a record handed in so: 1 with the lowest field out of range, else the record
+unfoldable pub givenOf : Record → Answer Record
+givenOf r = unless (eqb (recordLowest r) 0) (Field (recordLowest r)) (accepted r)
+
+-- ---- a reader: refused as the message is; then 2 with the bytes that the contents take; else their count
+
+unfoldable pub laidOf : {A : Type 0} → ℕ → Answer A → List ℕ → Answer ℕ
+laidOf width (accepted a) out = unless (leb width (length out)) (Room width) (accepted width)
+laidOf width (refused x) out = refused x
+
+-- the contents at the start of the lent memory, the rest as it was; a refusal writes nothing
+unfoldable pub laidBy : {A : Type 0} → (A → List ℕ) → Answer A → List ℕ → List ℕ
+laidBy bytes (accepted a) out = over out 0 (bytes a)
+laidBy bytes (refused x) out = out
+
+abbrev pub Lays : {A : Type 0} → (A → List ℕ) → ℕ → Answer A → List ℕ → host.Answer → List ℕ → Type 0
+Lays bytes width read out r after = Gives (answerOf (laidOf width read out)) (laidBy bytes read out) r after
+
+-- ---- a question about a message: refused as the message is
+
+unfoldable pub askedOf : {A : Type 0} → (Answer A → ℕ) → Answer A → Answer ℕ
+askedOf f (accepted a) = accepted (f (accepted a))
+askedOf f (refused x) = refused x

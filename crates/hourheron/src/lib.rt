@@ -1,0 +1,357 @@
+// For a C host: the writers, the readers, the owner's part, the conversion and the checksum, on
+// numbers and byte slices. No rule of the paper stands here.
+use fixed::FixedRead;
+use fixed::Lens;
+use frame::Wrote;
+use record::Figures;
+use record::Record;
+use record::RecordRead;
+use refusal::Refusal;
+use refusal::Verdict;
+use units::Converted;
+ghost use mathlib.Core.Path.{_≡_};
+ghost use Rattle.refusal.specs.Answer.{accepted, refused};
+ghost use Rattle.refusal.specs.declared.Refusal.the-variants.{Field, Setting};
+ghost use Rattle.frame.specs.Message.{afterwards, readOf};
+ghost use Rattle.record.specs.Forms.{textForm, packedForm};
+ghost use Rattle.record.specs.Record.{recordLowest, recordRead};
+ghost use Rattle.fixed.specs.Form.{fixedForm};
+ghost use Rattle.nreader.specs.Reader.{ownerAt, ownerLength};
+ghost use Rattle.units.specs.Units.{conversion};
+ghost use Rattle.layout.specs.Layout.{recordBytes, recordWidth, fixedBytes, fixedWidth};
+ghost use Rattle.hourheron.specs.Host.{answerOf, answerTo, conversionOf, checksumOf, Writes, recordFrom, fixedFrom, withSerial, givenOf, Lays, askedOf};
+
+// The refusal's number, or 0; and the value that comes with it, or the count.
+#[repr(C)]
+pub struct Answer {
+    pub number: u32,
+    pub value: u64,
+}
+
+// The refusal's number, or 0; refused, the field; done, the number converted.
+#[repr(C)]
+pub struct Conversion {
+    pub number: u32,
+    pub field: u32,
+    pub value: i32,
+}
+
+// ---- the answers
+
+fn done(n: usize) -> Answer
+    ensures { λ r. ⌜ r ≡ answerOf (accepted n) ⌝ }
+{
+    Answer {
+        number: 0,
+        value: n as u64,
+    }
+}
+
+fn refuse(x: Refusal) -> Answer
+    ensures { λ r. ⌜ r ≡ answerOf (refused x) ⌝ }
+{
+    Answer {
+        number: refusal::number_of(x),
+        value: refusal::value_of(x) as u64,
+    }
+}
+
+fn answer_to(w: Wrote) -> Answer
+    ensures { λ r. ⌜ r ≡ answerTo w ⌝ }
+{
+    match w {
+        Wrote::Done(n) => done(n),
+        Wrote::Refused(x) => refuse(x),
+    }
+}
+
+// ---- the conversion and the checksum
+
+// A number of a field in the wanted unit.
+#[no_mangle]
+pub extern "C" fn heron_convert(field: u32, number: i32, unit: u8, wanted: u8) -> Conversion
+    ensures { λ r. ⌜ r ≡ conversionOf (conversion field number unit wanted) ⌝ }
+{
+    match units::convert(field, number, unit, wanted) {
+        Converted::Value(value) => Conversion {
+            number: 0,
+            field: 0,
+            value,
+        },
+        Converted::Refused(x) => Conversion {
+            number: refusal::number_of(x),
+            field: refusal::value_of(x) as u32,
+            value: 0,
+        },
+    }
+}
+
+// The checksum of some bytes: its first character times 256, and its second.
+#[no_mangle]
+pub extern "C" fn heron_checksum(bytes: &[u8]) -> Answer
+    ensures { λ r. ⌜ r ≡ answerOf (accepted (checksumOf (now (bytes .entry)))) ⌝ }
+{
+    let sum = frame::sum_of(bytes);
+    done(sum.high as usize * 256 + sum.low as usize)
+}
+
+// ---- the writers of a record
+
+// The lowest field out of range, or 0; a serial of another length than nine is out of range.
+fn lowest_given(figures: Figures, serial: &[u8]) -> u32
+    ensures { λ i. ⌜ i ≡ recordLowest (withSerial figures (now (serial .entry))) ⌝ }
+{
+    let lowest = record::lowest_figure(figures, 9999999, 999);
+    if lowest != 0 {
+        return lowest;
+    }
+    if serial.len() != 9 {
+        return 12;
+    }
+    if !codec::is_text(serial) {
+        return 12;
+    }
+    0
+}
+
+// The record of fields and a serial that are handed in one by one: 1 with the lowest field out of range.
+fn record_given(figures: Figures, serial: &[u8]) -> RecordRead
+    ensures { λ r. ⌜ r ≡ recordRead (givenOf (withSerial figures (now (serial .entry)))) ⌝ }
+{
+    let lowest = lowest_given(figures, serial);
+    if lowest != 0 {
+        return record::refused_record(Refusal::Field(lowest));
+    }
+    let nine = serial::nine_of(serial);
+    record::accepted_record(Record {
+        figures,
+        serial: nine,
+    })
+}
+
+fn send_text(figures: Figures, serial: &[u8], checksum: bool, out: &mut [u8]) -> Answer
+    ensures { λ r. ⌜ Writes textForm Field checksum (withSerial figures (now (serial .entry))) (now (out .entry)) r (now (out .exit)) ⌝ }
+{
+    let given = record_given(figures, serial);
+    let verdict = given.verdict;
+    match verdict {
+        Verdict::Refused(x) => refuse(x),
+        Verdict::Done => {
+            let contents = given.contents;
+            answer_to(text::write_text(contents, checksum, out))
+        }
+    }
+}
+
+fn send_packed(figures: Figures, serial: &[u8], checksum: bool, out: &mut [u8]) -> Answer
+    ensures { λ r. ⌜ Writes packedForm Field checksum (withSerial figures (now (serial .entry))) (now (out .entry)) r (now (out .exit)) ⌝ }
+{
+    let given = record_given(figures, serial);
+    let verdict = given.verdict;
+    match verdict {
+        Verdict::Refused(x) => refuse(x),
+        Verdict::Done => {
+            let contents = given.contents;
+            answer_to(packed::write_packed(contents, checksum, out))
+        }
+    }
+}
+
+// Writes a record as text.
+#[no_mangle]
+pub extern "C" fn heron_write_text(
+    focus: u32,
+    aperture: u32,
+    stop: u32,
+    tenth: u32,
+    focal: u32,
+    hyperfocal: u32,
+    near: u32,
+    far: u32,
+    view: u32,
+    pupil: i32,
+    zoom: u32,
+    serial: &[u8],
+    checksum: bool,
+    out: &mut [u8],
+) -> Answer
+    ensures { λ r. ⌜ Writes textForm Field checksum (recordFrom focus aperture stop tenth focal hyperfocal near far view pupil zoom (now (serial .entry))) (now (out .entry)) r (now (out .exit)) ⌝ }
+{
+    let figures = Figures {
+        focus,
+        aperture,
+        stop,
+        tenth,
+        focal,
+        hyperfocal,
+        near,
+        far,
+        view,
+        pupil,
+        zoom,
+    };
+    send_text(figures, serial, checksum, out)
+}
+
+// Writes a record packed.
+#[no_mangle]
+pub extern "C" fn heron_write_packed(
+    focus: u32,
+    aperture: u32,
+    stop: u32,
+    tenth: u32,
+    focal: u32,
+    hyperfocal: u32,
+    near: u32,
+    far: u32,
+    view: u32,
+    pupil: i32,
+    zoom: u32,
+    serial: &[u8],
+    checksum: bool,
+    out: &mut [u8],
+) -> Answer
+    ensures { λ r. ⌜ Writes packedForm Field checksum (recordFrom focus aperture stop tenth focal hyperfocal near far view pupil zoom (now (serial .entry))) (now (out .entry)) r (now (out .exit)) ⌝ }
+{
+    let figures = Figures {
+        focus,
+        aperture,
+        stop,
+        tenth,
+        focal,
+        hyperfocal,
+        near,
+        far,
+        view,
+        pupil,
+        zoom,
+    };
+    send_packed(figures, serial, checksum, out)
+}
+
+// ---- the readers of a record
+
+// Puts what a reader answered into the lent memory: 53 bytes.
+fn lay_record(read: RecordRead, out: &mut [u8]) -> Answer
+    ensures { λ r. ⌜ Lays recordBytes recordWidth (afterwards (read .verdict) (accepted (read .contents))) (now (out .entry)) r (now (out .exit)) ⌝ }
+{
+    let verdict = read.verdict;
+    match verdict {
+        Verdict::Refused(x) => refuse(x),
+        Verdict::Done => {
+            if out.len() < 53 {
+                return refuse(Refusal::Room(53));
+            }
+            let contents = read.contents;
+            layout::put_record(out, contents);
+            done(53)
+        }
+    }
+}
+
+// Reads a text record into the lent memory.
+#[no_mangle]
+pub extern "C" fn heron_read_text(message: &[u8], checksum: bool, out: &mut [u8]) -> Answer
+    ensures { λ r. ⌜ Lays recordBytes recordWidth (readOf textForm checksum (now (message .entry))) (now (out .entry)) r (now (out .exit)) ⌝ }
+{
+    lay_record(text::read_text(message, checksum), out)
+}
+
+// Reads a packed record into the lent memory.
+#[no_mangle]
+pub extern "C" fn heron_read_packed(message: &[u8], checksum: bool, out: &mut [u8]) -> Answer
+    ensures { λ r. ⌜ Lays recordBytes recordWidth (readOf packedForm checksum (now (message .entry))) (now (out .entry)) r (now (out .exit)) ⌝ }
+{
+    lay_record(packed::read_packed(message, checksum), out)
+}
+
+// ---- the fixed data
+
+// Writes an N message.
+#[no_mangle]
+pub extern "C" fn heron_write_fixed(
+    serial: &[u8],
+    owner: &[u8],
+    kind: u8,
+    focal: u32,
+    maximum: u32,
+    letter: u8,
+    transmission: u32,
+    version: &[u8],
+    checksum: bool,
+    out: &mut [u8],
+) -> Answer
+    ensures { λ r. ⌜ Writes fixedForm Setting checksum (fixedFrom (now (serial .entry)) (now (owner .entry)) kind focal maximum letter transmission (now (version .entry))) (now (out .entry)) r (now (out .exit)) ⌝ }
+{
+    let lens = Lens {
+        kind,
+        focal,
+        maximum,
+        letter,
+        transmission,
+    };
+    let given = fixed::fixed_of(serial, owner, lens, version);
+    let verdict = given.verdict;
+    match verdict {
+        Verdict::Refused(x) => refuse(x),
+        Verdict::Done => {
+            let contents = given.contents;
+            answer_to(nwriter::write_fixed(contents, checksum, out))
+        }
+    }
+}
+
+// Puts what the reader answered into the lent memory: 51 bytes.
+fn lay_fixed(read: FixedRead, out: &mut [u8]) -> Answer
+    ensures { λ r. ⌜ Lays fixedBytes fixedWidth (afterwards (read .verdict) (accepted (read .contents))) (now (out .entry)) r (now (out .exit)) ⌝ }
+{
+    let verdict = read.verdict;
+    match verdict {
+        Verdict::Refused(x) => refuse(x),
+        Verdict::Done => {
+            if out.len() < 51 {
+                return refuse(Refusal::Room(51));
+            }
+            let contents = read.contents;
+            layout::put_fixed(out, contents);
+            done(51)
+        }
+    }
+}
+
+// Reads an N message into the lent memory.
+#[no_mangle]
+pub extern "C" fn heron_read_fixed(message: &[u8], checksum: bool, out: &mut [u8]) -> Answer
+    ensures { λ r. ⌜ Lays fixedBytes fixedWidth (readOf fixedForm checksum (now (message .entry))) (now (out .entry)) r (now (out .exit)) ⌝ }
+{
+    lay_fixed(nreader::read_fixed(message, checksum), out)
+}
+
+// Where the owner's part of an N message starts.
+#[no_mangle]
+pub extern "C" fn heron_owner_start(message: &[u8], checksum: bool) -> Answer
+    ensures { λ r. ⌜ r ≡ answerOf (askedOf ownerAt (readOf fixedForm checksum (now (message .entry)))) ⌝ }
+{
+    let read = nreader::read_fixed(message, checksum);
+    let verdict = read.verdict;
+    match verdict {
+        Verdict::Refused(x) => refuse(x),
+        Verdict::Done => done(12),
+    }
+}
+
+// How long the owner's part of an N message is, without its trailing spaces.
+#[no_mangle]
+pub extern "C" fn heron_owner_len(message: &[u8], checksum: bool) -> Answer
+    ensures { λ r. ⌜ r ≡ answerOf (askedOf ownerLength (readOf fixedForm checksum (now (message .entry)))) ⌝ }
+{
+    let read = nreader::read_fixed(message, checksum);
+    let verdict = read.verdict;
+    match verdict {
+        Verdict::Refused(x) => refuse(x),
+        Verdict::Done => {
+            let part = nreader::owner_part(message, checksum);
+            done(part.len())
+        }
+    }
+}

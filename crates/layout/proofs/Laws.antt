@@ -1,0 +1,62 @@
+-- How many bytes each part takes; and a write as a first part and what is left to write behind it, which is what a loop goes by. Assumes nothing.
+use Prim.Native.Nat.{ℕ, zero, suc, _+_, _-_, _*_, _≤_, _<_}
+use mathlib.Core.List.{List, [], _∷_, _++_}
+use mathlib.Core.Path.{_≡_, refl, sym, ap, _∙_}
+use native.Mathlib.Nat.{add-zero}
+use native.Mathlib.Numerals.{add-one}
+use native.Mathlib.Omega.{arith}
+use lib.ListN.{length, take, drop, getD, set, length-append, length-drop, take-append-drop}
+use lib.Seq.{drop-cons}
+use Rattle.laws.specs.Over.{over}
+use Rattle.laws.proofs.OverLaws.{over-fits, over-next, sets-over}
+use Rattle.record.specs.declared.Record.{Record}
+use Rattle.fixed.specs.declared.Fixed.{Fixed}
+use Rattle.fixed.proofs.Given.{Long}
+use Rattle.layout.specs.Layout.{lowestFirst, fourEach, numbersOf, recordBytes, recordWidth, lensBytes, fixedBytes, fixedWidth}
+
+pub number-long : (w n : ℕ) → length (lowestFirst w n) ≡ w
+unfolding lowestFirst
+number-long zero n = refl
+number-long (suc w) n = ap suc (number-long w _)
+
+pub numbers-long : (s : List ℕ) → length (fourEach s) ≡ 4 * length s
+unfolding fourEach
+numbers-long [] = refl
+numbers-long (n ∷ s) = let e = numbers-long s in length-append (lowestFirst 4 n) (fourEach s) ∙ rw (number-long 4 n) (omega arith)
+
+-- nothing left to write
+pub over-none : (d : List ℕ) (a : ℕ) → a ≤ length d → over d a [] ≡ d
+over-none d a h =
+    let room : a + length {A = ℕ} [] ≤ length d = simp add-zero h in
+    over-fits d [] a room ∙ ap (λ (x : ℕ). take a d ++ drop x d) (add-zero a) ∙ take-append-drop a d
+
+-- one byte stored, and what is left
+pub over-byte : (d s : List ℕ) (a x : ℕ) → a + 1 + length s ≤ length d → over (set d a x) (a + 1) s ≡ over d a (x ∷ s)
+over-byte d s a x h =
+    let one : a + length (x ∷ []) ≤ length d = omega arith in
+    ap (λ (e : List ℕ). over e (a + 1) s) (sets-over d (x ∷ []) a one) ∙ over-next d (x ∷ []) s a (a + 1) refl h
+
+-- one number written, and what is left
+pub over-number : (d s : List ℕ) (i : ℕ) → i < length s → 4 * length s ≤ length d →
+    over (over d (4 * i) (lowestFirst 4 (getD s i 0))) (4 * (i + 1)) (fourEach (drop (i + 1) s)) ≡ over d (4 * i) (fourEach (drop i s))
+unfolding fourEach
+over-number d s i h room =
+    let rest = fourEach (drop (i + 1) s) in
+    let l : length rest ≡ 4 * (length s - (i + 1)) = numbers-long (drop (i + 1) s) ∙ ap (λ (k : ℕ). 4 * k) (length-drop (i + 1) s) in
+    let next : 4 * i + length (lowestFirst 4 (getD s i 0)) ≡ 4 * (i + 1) = omega (arith, number-long 4 (getD s i 0)) in
+    let fits : 4 * (i + 1) + length rest ≤ length d = omega arith in
+    over-next d (lowestFirst 4 (getD s i 0)) rest (4 * i) (4 * (i + 1)) next fits
+    ∙ sym (ap (λ (t : List ℕ). over d (4 * i) (fourEach t)) (drop-cons s i 0 h ∙ ap (λ (k : ℕ). getD s i 0 ∷ drop k s) (sym (add-one i))))
+
+-- ---- how long the whole is, where the texts have their lengths
+
+pub record-long : (r : Record) → length (r .serial) ≡ 9 → length (recordBytes r) ≡ recordWidth
+unfolding numbersOf
+record-long r l = length-append (fourEach (numbersOf (r .figures))) (r .serial) ∙ rw (numbers-long (numbersOf (r .figures)), l)
+
+pub lens-long : (f : Fixed) → length (lensBytes f) ≡ 7
+unfolding lensBytes lowestFirst
+lens-long f = refl
+
+pub fixed-long : (f : Fixed) → Long (f .serial) (f .owner) (f .version) → length (fixedBytes f) ≡ fixedWidth
+fixed-long f l = simp (length-append, l .nine, l .thirty-one, lens-long f, l .four)

@@ -1,0 +1,191 @@
+-- The port's entries on its state by value: document 01's 'The port, slot by slot'. The contracts cite these.
+use Prim.Native.Nat.{ℕ, zero, suc, _+_}
+use mathlib.Core.Bool.{Bool, true, false, _&&_, _||_, cond}
+use mathlib.Core.List.{List, [], _∷_}
+use lib.Dec.{ltb, eqb}
+use lib.IntN.{pos}
+use lib.ListN.{length, getD, replicate}
+use Rattle.refusal.specs.declared.Refusal.the-variants as refusal
+use Rattle.refusal.specs.declared.Verdict.{Verdict}
+use Rattle.refusal.specs.declared.Verdict.the-variants.{Done, Refused}
+use Rattle.fixed.specs.declared.Settings.{Settings}
+use Rattle.record.specs.Record.{noFigures}
+use Rattle.fixed.specs.Fixed.{noFixed, settingsLowest}
+use Rattle.units.specs.declared.Measurement.{Measurement}
+use Rattle.units.specs.Measurement.{measurementVerdict}
+use Rattle.line.specs.declared.Line.{Line}
+use Rattle.line.specs.Line.{blank, joined, validLine}
+use Rattle.state.specs.declared.State.the-variants as state
+use Rattle.state.specs.declared.Sending.the-variants as sending
+use Rattle.state.specs.declared.Last.{Last}
+use Rattle.state.specs.declared.Last.the-variants as last
+use Rattle.state.specs.declared.Message.{Message}
+use Rattle.state.specs.declared.Source.{Source}
+use Rattle.state.specs.declared.Waiting.{Waiting}
+use Rattle.state.specs.State.{messageOf, validMessage, validSource}
+use Rattle.rules.specs.Does.{withModes, rateMoved, Done as Does, does, counts, continuous, recordMessage}
+use Rattle.rules.specs.Lens.{greeting}
+use Rattle.port.specs.declared.Port.{Port}
+use Rattle.port.specs.declared.Sent.the-variants as sent
+use Rattle.port.specs.declared.Slotted.{Slotted}
+use Rattle.port.specs.declared.Received.{Received}
+use Rattle.port.specs.declared.Handed.{Handed}
+
+-- 16 covers the source, the message under way and the line that waits
+unfoldable pub validPort : Port → Bool
+validPort p = validSource (p .source) && (validMessage (p .message) && validLine (p .waiting .line))
+
+-- ---- a slot
+
+-- the byte at a place leaves; the last byte of a message moves the rate
+abbrev pub sentTo : Message → ℕ → Message
+sentTo m at = record { bytes = m .bytes; len = m .len; at = at + 1 }
+
+unfoldable pub movedIf : Bool → Source → Source
+movedIf ended s = cond ended (withModes s (rateMoved (s .modes))) s
+
+unfoldable pub sendFrom : Port → ℕ → Slotted
+sendFrom p at = record {
+  sent = sent.Byte (getD (p .message .bytes) at 0);
+  port = record {
+    source = movedIf (eqb (at + 1) (p .message .len)) (p .source);
+    message = sentTo (p .message) at;
+    last = p .last;
+    waiting = p .waiting;
+  };
+}
+
+-- a message starts: its first byte leaves
+unfoldable pub begunWith : Source → Message → Last → Waiting → Slotted
+begunWith s m k w = sendFrom (record { source = s; message = m; last = k; waiting = w }) 0
+
+abbrev pub begins : Source → List ℕ → Last → Waiting → Slotted
+begins s xs k w = begunWith s (messageOf xs) k w
+
+abbrev pub nobody : Waiting
+nobody = record { some = false; line = blank }
+
+-- rules 1 and 3: a record starts
+unfoldable pub beginsRecord : Port → Slotted
+beginsRecord p = begins (p .source) (recordMessage (p .source)) last.Record (p .waiting)
+
+-- rules 3 and 4: a record, where continuous sending is on; else the slot is idle
+unfoldable pub restOf : Port → Slotted
+restOf p = cond (continuous (p .source)) (beginsRecord p) (record { sent = sent.Idle; port = p })
+
+-- < counts as neither
+abbrev pub replyLast : Bool → Last
+replyLast true = last.Reply
+replyLast false = last.Neither
+
+abbrev pub freed : Port → Source → Port
+freed p s = record { source = s; message = p .message; last = p .last; waiting = nobody }
+
+-- a reply starts, if there is one; the waiting place is free
+unfoldable pub answers : Port → Source → List ℕ → Last → Slotted
+answers p s [] k = restOf (freed p s)
+answers p s (b ∷ bs) k = begins s (b ∷ bs) k nobody
+
+-- rule 2: the command that waits is acted on
+unfoldable pub actOf : Port → Slotted
+actOf p =
+    let d = does (p .source) (p .waiting .line) in
+    answers p (d .source) (d .reply) (replyLast (counts (p .source) (p .waiting .line)))
+
+abbrev pub isReply : Last → Bool
+isReply last.Reply = true
+isReply last.Record = false
+isReply last.Neither = false
+
+-- rules 1 to 4, where no message is under way
+unfoldable pub chooseOf : Port → Slotted
+chooseOf p =
+    cond (continuous (p .source) && isReply (p .last)) (beginsRecord p)
+    (cond (p .waiting .some) (actOf p) (restOf p))
+
+unfoldable pub slotOf : Port → Slotted
+slotOf p =
+    cond (validPort p)
+    (cond (ltb (p .message .at) (p .message .len)) (sendFrom p (p .message .at)) (chooseOf p))
+    (record { sent = sent.Refused refusal.State; port = p })
+
+-- ---- a received byte
+
+abbrev pub takenPort : Port → Line → Port
+takenPort p l = record { source = p .source; message = p .message; last = p .last; waiting = record { some = true; line = l } }
+
+-- at CR the line is emptied: taken where no command waits, else dropped
+unfoldable pub takenOf : Port → Line → Received
+takenOf p l =
+    cond (p .waiting .some)
+    (record { verdict = Refused refusal.Dropped; port = p; line = blank })
+    (record { verdict = Done; port = takenPort p l; line = blank })
+
+unfoldable pub receiveOf : Port → Line → ℕ → Received
+receiveOf p l b =
+    cond (validPort p && validLine l)
+    (cond (eqb b 13) (takenOf p l) (record { verdict = Done; port = p; line = joined l b }))
+    (record { verdict = Refused refusal.State; port = p; line = l })
+
+-- ---- a measurement, a start
+
+abbrev pub measuredPort : Port → Measurement → Port
+measuredPort p m = record {
+  source = record { settings = p .source .settings; measurement = m; modes = p .source .modes };
+  message = p .message;
+  last = p .last;
+  waiting = p .waiting;
+}
+
+-- what a verdict hands back: the new port, or the old one
+unfoldable pub handed : Verdict → Port → Port → Handed
+handed Done new old = record { verdict = Done; port = new }
+handed (Refused r) new old = record { verdict = Refused r; port = old }
+
+unfoldable pub measureOf : Port → Measurement → Handed
+measureOf p m =
+    cond (validPort p) (handed (measurementVerdict m) (measuredPort p m) p) (record { verdict = Refused refusal.State; port = p })
+
+-- unit by the start-up letter: I, B imperial; M, b metric
+unfoldable pub unitOf : ℕ → ℕ
+unitOf l = cond (eqb l 73 || eqb l 66) 73 77
+
+-- no command waiting, ready, all modes off, film 00, rate number 6
+abbrev pub startedWith : Settings → Measurement → ℕ → Message → Waiting → Port
+startedWith s m unit message waiting = record {
+  source = record {
+    settings = s;
+    measurement = m;
+    modes = record {
+      state = state.Ready;
+      sending = sending.Off;
+      checksum = false;
+      inhibit = false;
+      film = 0;
+      unit = unit;
+      rate = 6;
+      «next_rate» = 6;
+    };
+  };
+  message = message;
+  last = last.Neither;
+  waiting = waiting;
+}
+
+-- a start leaves < LF CR to be sent, and the unit is by the start-up letter
+abbrev pub started : Settings → Measurement → Port
+started s m = startedWith s m (unitOf (s .fixed .letter)) (messageOf greeting) nobody
+
+-- before the first start: zeros for settings and measurement, which no entry but a start takes
+abbrev pub unstarted : Port
+unstarted =
+    started
+    (record { fixed = noFixed; maker = replicate 15 0; «type_name» = replicate 30 0; blur = replicate 32 0 })
+    (record { unit = 0; figures = noFigures; temperature = pos 0 })
+
+-- 8 with the lowest item, then 1 with the lowest field; never 16
+unfoldable pub startOf : Port → Settings → Measurement → Handed
+startOf old s m =
+    cond (eqb (settingsLowest s) 0)
+    (handed (measurementVerdict m) (started s m) old)
+    (record { verdict = Refused (refusal.Setting (settingsLowest s)); port = old })

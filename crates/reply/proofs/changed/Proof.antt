@@ -1,0 +1,14 @@
+-- `reply::changed` meets its contract: ! beside the source after it. Assumes nothing.
+use Rattle.reply.proofs.Laws.{answered}
+use borrow.Author.Needs.{needs}
+use Rattle.reply.proofs.changed.Statement.{statement}
+use Rattle.reply.proofs.changed.Tie as tie
+
+letter-requires : tie.Need-letter-requires
+letter-requires c κs = search needs
+
+returns : tie.Need-returns
+returns c = answered _ _ (c .letter .ensures)
+
+pub changed-spec : {M : Type 1} → statement M
+changed-spec = tie.close (tie.spec letter-requires returns)

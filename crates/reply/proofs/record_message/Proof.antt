@@ -1,0 +1,15 @@
+-- `reply::record_message` meets its contract: the measurement is an accepted one. Assumes nothing.
+use Rattle.rules.specs.Does.{recordMessage}
+use Rattle.reply.proofs.Laws.{measurement-done}
+use Rattle.reply.proofs.record_message.Statement.{statement}
+use Rattle.reply.proofs.record_message.Tie as tie
+
+record-in-requires : tie.Need-record-in-requires
+record-in-requires c κs = measurement-done (c .before .args .source) (c .before .pre)
+
+returns : tie.Need-returns
+unfolding recordMessage
+returns c = c .record-in .ensures
+
+pub record-message-spec : {M : Type 1} → statement M
+record-message-spec = tie.close (tie.spec record-in-requires returns)

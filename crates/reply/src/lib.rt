@@ -1,0 +1,532 @@
+// Replies and records as messages: each built in a fresh buffer of zeros and ended under the modes
+// after the command.
+use fixed::Fixed;
+use line::Command;
+use line::Line;
+use record::Record;
+use state::Message;
+use state::Modes;
+use state::Sending;
+use state::Source;
+use state::State;
+ghost use mathlib.Core.Path.{_≡_};
+ghost use mathlib.Core.Bool.{true};
+ghost use mathlib.Core.List.{[], _∷_};
+ghost use Prim.Native.Nat.{_+_, _≤_};
+ghost use lib.ListN.{length};
+ghost use Rattle.refusal.specs.declared.Verdict.the-variants.{Done};
+ghost use Rattle.digits.specs.Digits.{decimal};
+ghost use Rattle.frame.specs.Frame.{framed};
+ghost use Rattle.record.specs.Forms.{textForm, packedForm};
+ghost use Rattle.fixed.specs.Form.{fixedForm};
+ghost use Rattle.units.specs.Measurement.{measurementVerdict};
+ghost use Rattle.line.specs.Command.{InRange};
+ghost use Rattle.line.specs.declared.Command.the-variants as lines;
+ghost use Rattle.state.specs.State.{messageOf, validSource};
+ghost use Rattle.rules.specs.Does as table;
+ghost use Rattle.reply.specs.Reply.{actedOf, closedOf, shownOf};
+
+// A command acted on: the source after it, and the message of its reply, of length 0 where it has none.
+pub struct Acted {
+    pub source: Source,
+    pub message: Message,
+}
+
+// ---- messages
+
+// The first n bytes of a buffer, ended, about to be sent.
+fn closed(bytes: [u8; 128], n: usize, checksum: bool) -> Message
+    requires { ⌜ n + 4 ≤ 128 ⌝ }
+    ensures { λ r. ⌜ r ≡ closedOf bytes n checksum ⌝ }
+{
+    let mut buffer = bytes;
+    frame::put_ending(&mut buffer, n, checksum);
+    Message {
+        bytes: buffer,
+        len: n + frame::ending_width(checksum),
+        at: 0,
+    }
+}
+
+// One byte.
+fn letter(byte: u8, checksum: bool) -> Message
+    ensures { λ r. ⌜ r ≡ messageOf (framed checksum (byte ∷ [])) ⌝ }
+{
+    let mut bytes = [0u8; 128];
+    lent::put_byte(&mut bytes, 0, byte);
+    closed(bytes, 1, checksum)
+}
+
+// Two bytes and a text.
+fn named(first: u8, second: u8, text: &[u8], checksum: bool) -> Message
+    requires { ⌜ length (now text) ≤ 64 ⌝ }
+    ensures { λ r. ⌜ r ≡ messageOf (framed checksum (first ∷ second ∷ now (text .entry))) ⌝ }
+{
+    let mut bytes = [0u8; 128];
+    lent::put_pair(&mut bytes, 0, first, second);
+    lent::put_text(&mut bytes, 2, text);
+    closed(bytes, 2 + text.len(), checksum)
+}
+
+// B, a space and the version.
+fn version_message(fixed: Fixed, checksum: bool) -> Message
+    ensures { λ r. ⌜ r ≡ messageOf (framed checksum (66 ∷ 32 ∷ fixed .version)) ⌝ }
+{
+    let text = fixed.version;
+    named(b'B', b' ', &text, checksum)
+}
+
+// The fixed data.
+fn fixed_message(fixed: Fixed, checksum: bool) -> Message
+    ensures { λ r. ⌜ r ≡ messageOf (framed checksum (fixedForm .print fixed)) ⌝ }
+{
+    let mut bytes = [0u8; 128];
+    nwriter::put_fixed(&mut bytes, fixed);
+    closed(bytes, 65, checksum)
+}
+
+// The degrees that are shown: below 0 none, above 99 no more than 99.
+fn shown(t: i32) -> u32
+    ensures { λ r. ⌜ r ≡ shownOf t ⌝ }
+{
+    if sign::is_below(t) {
+        return 0;
+    }
+    let n = sign::size_of(t);
+    if n <= 99 {
+        return n;
+    }
+    99
+}
+
+// P and two digits.
+fn degrees_message(t: i32, checksum: bool) -> Message
+    ensures { λ r. ⌜ r ≡ messageOf (framed checksum (80 ∷ table.degrees t)) ⌝ }
+{
+    let mut bytes = [0u8; 128];
+    codec::put_tagged(&mut bytes, 0, b'P', 2, shown(t));
+    closed(bytes, 3, checksum)
+}
+
+// A letter, 0.0 and the three digits of a blur circle.
+fn blur_message(letter: u8, circle: u16, checksum: bool) -> Message
+    ensures { λ r. ⌜ r ≡ messageOf (framed checksum (letter ∷ 48 ∷ 46 ∷ 48 ∷ decimal 3 circle)) ⌝ }
+{
+    let head = [letter, b'0', b'.', b'0'];
+    let mut bytes = [0u8; 128];
+    lent::put_text(&mut bytes, 0, &head);
+    digits::put_decimal(&mut bytes, 4, 3, circle as u32);
+    closed(bytes, 7, checksum)
+}
+
+// The record of the measurement in the display unit.
+fn record_now(source: Source) -> Record
+    requires { ⌜ measurementVerdict (source .measurement) ≡ Done ⌝ }
+    ensures { λ r. ⌜ r ≡ table.recordNow source ⌝ }
+{
+    let settings = source.settings;
+    let fixed = settings.fixed;
+    let measurement = source.measurement;
+    let modes = source.modes;
+    let serial = fixed.serial;
+    units::record_of(measurement, modes.unit, serial)
+}
+
+// The text record.
+fn text_message(source: Source) -> Message
+    requires { ⌜ measurementVerdict (source .measurement) ≡ Done ⌝ }
+    ensures { λ r. ⌜ r ≡ messageOf (framed (source .modes .checksum) (textForm .print (table.recordNow source))) ⌝ }
+{
+    let modes = source.modes;
+    let mut bytes = [0u8; 128];
+    text::put_text_record(&mut bytes, record_now(source));
+    closed(bytes, 74, modes.checksum)
+}
+
+// The packed record.
+fn packed_message(source: Source) -> Message
+    requires { ⌜ measurementVerdict (source .measurement) ≡ Done ⌝ }
+    ensures { λ r. ⌜ r ≡ messageOf (framed (source .modes .checksum) (packedForm .print (table.recordNow source))) ⌝ }
+{
+    let modes = source.modes;
+    let mut bytes = [0u8; 128];
+    packed::put_packed_record(&mut bytes, record_now(source));
+    closed(bytes, 39, modes.checksum)
+}
+
+// The record in this form; where continuous sending is off, the text.
+fn record_in(source: Source, form: Sending) -> Message
+    requires { ⌜ measurementVerdict (source .measurement) ≡ Done ⌝ }
+    ensures { λ r. ⌜ r ≡ messageOf (framed (source .modes .checksum) (table.recordIs form source)) ⌝ }
+{
+    match form {
+        Sending::Off => text_message(source),
+        Sending::Text => text_message(source),
+        Sending::Packed => packed_message(source),
+    }
+}
+
+// ---- replies: each under the modes after the command
+
+// No reply.
+fn silent(source: Source) -> Acted
+    ensures { λ r. ⌜ r ≡ actedOf (table.silent source) ⌝ }
+{
+    let message = Message {
+        bytes: [0u8; 128],
+        len: 0,
+        at: 0,
+    };
+    Acted { source, message }
+}
+
+// One byte.
+fn answer(source: Source, byte: u8) -> Acted
+    ensures { λ r. ⌜ r ≡ actedOf (table.replies source (byte ∷ [])) ⌝ }
+{
+    let modes = source.modes;
+    let message = letter(byte, modes.checksum);
+    Acted { source, message }
+}
+
+// B: the version.
+fn version(source: Source) -> Acted
+    ensures { λ r. ⌜ r ≡ actedOf (table.replies source (66 ∷ 32 ∷ source .settings .fixed .version)) ⌝ }
+{
+    let settings = source.settings;
+    let fixed = settings.fixed;
+    let modes = source.modes;
+    let message = version_message(fixed, modes.checksum);
+    Acted { source, message }
+}
+
+// K3: the maker's name.
+fn maker(source: Source) -> Acted
+    ensures { λ r. ⌜ r ≡ actedOf (table.replies source (75 ∷ 51 ∷ source .settings .maker)) ⌝ }
+{
+    let settings = source.settings;
+    let text = settings.maker;
+    let modes = source.modes;
+    let message = named(b'K', b'3', &text, modes.checksum);
+    Acted { source, message }
+}
+
+// K4: the name of the type.
+fn type_name(source: Source) -> Acted
+    ensures { λ r. ⌜ r ≡ actedOf (table.replies source (75 ∷ 52 ∷ source .settings .«type_name»)) ⌝ }
+{
+    let settings = source.settings;
+    let text = settings.type_name;
+    let modes = source.modes;
+    let message = named(b'K', b'4', &text, modes.checksum);
+    Acted { source, message }
+}
+
+// D, Kd: one record.
+fn record_reply(source: Source, form: Sending) -> Acted
+    requires { ⌜ measurementVerdict (source .measurement) ≡ Done ⌝ }
+    ensures { λ r. ⌜ r ≡ actedOf (table.replies source (table.recordIs form source)) ⌝ }
+{
+    let message = record_in(source, form);
+    Acted { source, message }
+}
+
+// N: the fixed data.
+fn fixed_data(source: Source) -> Acted
+    ensures { λ r. ⌜ r ≡ actedOf (table.replies source (fixedForm .print (source .settings .fixed))) ⌝ }
+{
+    let settings = source.settings;
+    let fixed = settings.fixed;
+    let modes = source.modes;
+    let message = fixed_message(fixed, modes.checksum);
+    Acted { source, message }
+}
+
+// P: the temperature.
+fn temperature(source: Source) -> Acted
+    ensures { λ r. ⌜ r ≡ actedOf (table.replies source (80 ∷ table.degrees (source .measurement .temperature))) ⌝ }
+{
+    let measurement = source.measurement;
+    let t = measurement.temperature;
+    let modes = source.modes;
+    let message = degrees_message(t, modes.checksum);
+    Acted { source, message }
+}
+
+// V, W: the film, and its blur circle.
+fn film(source: Source, letter: u8, n: u8) -> Acted
+    requires { ⌜ n ≤ 31 ⌝ }
+    ensures { λ r. ⌜ r ≡ actedOf (table.replies (table.withModes source (table.filmNow n (source .modes))) (letter ∷ table.blurOf n (source .settings))) ⌝ }
+{
+    let mut modes = source.modes;
+    modes.film = n;
+    let mut after = source;
+    after.modes = modes;
+    let settings = source.settings;
+    let blur = settings.blur;
+    let message = blur_message(letter, blur[n as usize], modes.checksum);
+    Acted {
+        source: after,
+        message,
+    }
+}
+
+// Kb: the rate that follows.
+fn rate(source: Source, n: u8) -> Acted
+    requires { ⌜ n ≤ 7 ⌝ }
+    ensures { λ r. ⌜ r ≡ actedOf (table.replies (table.withModes source (table.rateNext n (source .modes))) (75 ∷ 98 ∷ (48 + n) ∷ 33 ∷ [])) ⌝ }
+{
+    let mut modes = source.modes;
+    modes.next_rate = n;
+    let mut after = source;
+    after.modes = modes;
+    let digit = 48 + n;
+    let text = [digit, b'!'];
+    let message = named(b'K', b'b', &text, modes.checksum);
+    Acted {
+        source: after,
+        message,
+    }
+}
+
+// The start-up letter after X or Y: B and b become this one.
+fn turned(to: u8, letter: u8) -> u8
+    ensures { λ r. ⌜ r ≡ table.turned to letter ⌝ }
+{
+    if (letter == b'B') | (letter == b'b') {
+        return to;
+    }
+    letter
+}
+
+// X, Y: the display unit, and the start-up letter turned.
+fn unit(source: Source, unit: u8, to: u8, byte: u8) -> Acted
+    ensures { λ r. ⌜ r ≡ actedOf (table.replies (table.unitWith unit to source) (byte ∷ [])) ⌝ }
+{
+    let mut settings = source.settings;
+    let mut fixed = settings.fixed;
+    fixed.letter = turned(to, fixed.letter);
+    settings.fixed = fixed;
+    let mut modes = source.modes;
+    modes.unit = unit;
+    let mut after = source;
+    after.settings = settings;
+    after.modes = modes;
+    answer(after, byte)
+}
+
+// A change of modes, answered with !.
+fn changed(source: Source, modes: Modes) -> Acted
+    ensures { λ r. ⌜ r ≡ actedOf (table.replies (table.withModes source modes) (33 ∷ [])) ⌝ }
+{
+    let mut after = source;
+    after.modes = modes;
+    let message = letter(b'!', modes.checksum);
+    Acted {
+        source: after,
+        message,
+    }
+}
+
+// C, Kc: continuous sending.
+fn sending_on(source: Source, sending: Sending) -> Acted
+    ensures { λ r. ⌜ r ≡ actedOf (table.replies (table.withModes source (table.sendingNow sending (source .modes))) (33 ∷ [])) ⌝ }
+{
+    let m = source.modes;
+    let state = m.state;
+    let modes = Modes {
+        state,
+        sending,
+        checksum: m.checksum,
+        inhibit: m.inhibit,
+        film: m.film,
+        unit: m.unit,
+        rate: m.rate,
+        next_rate: m.next_rate,
+    };
+    changed(source, modes)
+}
+
+// G: checksum on.
+fn checksum_on(source: Source) -> Acted
+    ensures { λ r. ⌜ r ≡ actedOf (table.replies (table.withModes source (table.checksumNow (source .modes))) (33 ∷ [])) ⌝ }
+{
+    let mut modes = source.modes;
+    modes.checksum = true;
+    changed(source, modes)
+}
+
+// Ka: error inhibit on.
+fn inhibit_on(source: Source) -> Acted
+    ensures { λ r. ⌜ r ≡ actedOf (table.replies (table.withModes source (table.inhibitNow (source .modes))) (33 ∷ [])) ⌝ }
+{
+    let mut modes = source.modes;
+    modes.inhibit = true;
+    changed(source, modes)
+}
+
+// H: continuous, checksum, inhibit off.
+fn all_off(source: Source) -> Acted
+    ensures { λ r. ⌜ r ≡ actedOf (table.replies (table.withModes source (table.quietNow (source .modes))) (33 ∷ [])) ⌝ }
+{
+    let before = source.modes;
+    let state = before.state;
+    let modes = Modes {
+        state,
+        sending: Sending::Off,
+        checksum: false,
+        inhibit: false,
+        film: before.film,
+        unit: before.unit,
+        rate: before.rate,
+        next_rate: before.next_rate,
+    };
+    changed(source, modes)
+}
+
+// Every other line: ?, or no reply when inhibited.
+fn unknown(source: Source) -> Acted
+    ensures { λ r. ⌜ r ≡ actedOf (table.runs source lines.Unknown) ⌝ }
+{
+    let modes = source.modes;
+    if modes.inhibit {
+        return silent(source);
+    }
+    answer(source, b'?')
+}
+
+// ---- the table
+
+// In running, by the letters of the command.
+fn running(source: Source, command: Command) -> Acted
+    requires { ⌜ measurementVerdict (source .measurement) ≡ Done ⌝ }
+    requires { ⌜ InRange command ⌝ }
+    ensures { λ r. ⌜ r ≡ actedOf (table.runs source command) ⌝ }
+{
+    match command {
+        Command::B => version(source),
+        Command::C => sending_on(source, Sending::Text),
+        Command::D => record_reply(source, Sending::Text),
+        Command::G => checksum_on(source),
+        Command::H => all_off(source),
+        Command::Ka => inhibit_on(source),
+        Command::Kb(n) => rate(source, n),
+        Command::Kc => sending_on(source, Sending::Packed),
+        Command::Kd => record_reply(source, Sending::Packed),
+        Command::K3 => maker(source),
+        Command::K4 => type_name(source),
+        Command::N => fixed_data(source),
+        Command::P => temperature(source),
+        Command::V => film(source, b'V', 0),
+        Command::W(n) => film(source, b'W', n),
+        Command::X => unit(source, b'I', b'B', b'X'),
+        Command::Y => unit(source, b'M', b'b', b'Y'),
+        Command::Unknown => unknown(source),
+    }
+}
+
+fn is_n(command: Command) -> bool
+    ensures { λ r. ⌜ r ≡ table.isN command ⌝ }
+{
+    match command {
+        Command::B => false,
+        Command::C => false,
+        Command::D => false,
+        Command::G => false,
+        Command::H => false,
+        Command::Ka => false,
+        Command::Kb(_) => false,
+        Command::Kc => false,
+        Command::Kd => false,
+        Command::K3 => false,
+        Command::K4 => false,
+        Command::N => true,
+        Command::P => false,
+        Command::V => false,
+        Command::W(_) => false,
+        Command::X => false,
+        Command::Y => false,
+        Command::Unknown => false,
+    }
+}
+
+// The fixed data, and on to running.
+fn woken(source: Source) -> Acted
+    ensures { λ r. ⌜ r ≡ actedOf (table.replies (table.withModes source (table.runningNow (source .modes))) (fixedForm .print (source .settings .fixed))) ⌝ }
+{
+    let m = source.modes;
+    let sending = m.sending;
+    let modes = Modes {
+        state: State::Running,
+        sending,
+        checksum: m.checksum,
+        inhibit: m.inhibit,
+        film: m.film,
+        unit: m.unit,
+        rate: m.rate,
+        next_rate: m.next_rate,
+    };
+    let mut after = source;
+    after.modes = modes;
+    fixed_data(after)
+}
+
+// In ready: N is answered, everything else is <.
+fn ready(source: Source, command: Command) -> Acted
+    ensures { λ r. ⌜ r ≡ actedOf (table.readies source command) ⌝ }
+{
+    if is_n(command) {
+        return woken(source);
+    }
+    answer(source, b'<')
+}
+
+// The line that waited, acted on.
+pub fn act(source: Source, line: Line) -> Acted
+    requires { ⌜ validSource source ≡ true ⌝ }
+    ensures { λ r. ⌜ r ≡ actedOf (table.does source line) ⌝ }
+{
+    let command = line.command();
+    let modes = source.modes;
+    let state = modes.state;
+    match state {
+        State::Ready => ready(source, command),
+        State::Running => running(source, command),
+    }
+}
+
+// Whether its reply counts as one once it is sent: < does not.
+pub fn counts(source: Source, line: Line) -> bool
+    ensures { λ r. ⌜ r ≡ table.counts source line ⌝ }
+{
+    let command = line.command();
+    let modes = source.modes;
+    let state = modes.state;
+    match state {
+        State::Ready => is_n(command),
+        State::Running => true,
+    }
+}
+
+// Whether continuous sending is on.
+pub fn is_continuous(source: Source) -> bool
+    ensures { λ r. ⌜ r ≡ table.continuous source ⌝ }
+{
+    let modes = source.modes;
+    let sending = modes.sending;
+    match sending {
+        Sending::Off => false,
+        Sending::Text => true,
+        Sending::Packed => true,
+    }
+}
+
+// The record that continuous sending starts.
+pub fn record_message(source: Source) -> Message
+    requires { ⌜ validSource source ≡ true ⌝ }
+    ensures { λ r. ⌜ r ≡ messageOf (table.recordMessage source) ⌝ }
+{
+    let modes = source.modes;
+    let sending = modes.sending;
+    record_in(source, sending)
+}

@@ -1,0 +1,842 @@
+//! Compares libhourheron.a with the reference (reference/lens.rs) on random and on exhaustive inputs: the answers, and all
+//! of the lent memory with guard bytes on both sides of it. Exit status 1 on a difference.
+//!
+//! differential [seed [random cases per entry]]
+
+#[path = "reference/lens.rs"]
+mod lens;
+mod library;
+
+use lens::{Fixed, Record, Refusal};
+use library::Converted;
+use std::process::exit;
+
+const GUARD: usize = 16;
+const GUARD_BYTE: u8 = 0xEE;
+const LONGEST_ROOM: usize = 160;
+const MOST_REPORTS: u64 = 10;
+
+type Outcome = Result<usize, Refusal>;
+
+// ---- random numbers (splitmix64)
+
+struct Random(u64);
+
+impl Random {
+    fn next(&mut self) -> u64 {
+        self.0 = self.0.wrapping_add(0x9E37_79B9_7F4A_7C15);
+        let z = (self.0 ^ (self.0 >> 30)).wrapping_mul(0xBF58_476D_1CE4_E5B9);
+        let z = (z ^ (z >> 27)).wrapping_mul(0x94D0_49BB_1331_11EB);
+        z ^ (z >> 31)
+    }
+
+    fn below(&mut self, n: usize) -> usize {
+        (self.next() % n as u64) as usize
+    }
+
+    fn between(&mut self, low: i64, high: i64) -> i64 {
+        low + (self.next() % (high - low + 1) as u64) as i64
+    }
+
+    fn flag(&mut self) -> bool {
+        self.next() & 1 == 1
+    }
+
+    fn byte(&mut self) -> u8 {
+        self.next() as u8
+    }
+
+    fn pick<T: Copy>(&mut self, from: &[T]) -> T {
+        from[self.below(from.len())]
+    }
+}
+
+// ---- records and fixed data, in range and out of it
+
+const LIMITS: [(i64, i64); 11] = [
+    (0, 9_999_999),
+    (0, 4095),
+    (0, 250),
+    (0, 9),
+    (0, 1023),
+    (0, 9_999_999),
+    (0, 9_999_999),
+    (0, 9_999_999),
+    (0, 4095),
+    (-999, 999),
+    (0, 1000),
+];
+
+/// What the C interface can hand over as this field: a signed number for the pupil, an unsigned one for the others.
+fn as_argument(field: usize, v: i64) -> i64 {
+    if field == 10 {
+        i64::from(v as i32)
+    } else {
+        i64::from(v as u32)
+    }
+}
+
+fn right_value(random: &mut Random, field: usize) -> i64 {
+    let (low, high) = LIMITS[field - 1];
+    match (field, random.below(4)) {
+        (3, 0) => random.pick(&[0, 1, 9, 10, 98, 99, 100, 110, 120, 130, 240, 250]),
+        (3, 1) => 10 * random.between(10, 25),
+        (3, _) => random.between(0, 99),
+        (10, 0) => random.pick(&[low, low + 1, -1, 0, 1, high - 1, high]),
+        (_, 0) => random.pick(&[low, low + 1, high - 1, high]),
+        _ => random.between(low, high),
+    }
+}
+
+fn wrong_value(random: &mut Random, field: usize) -> i64 {
+    let (low, high) = LIMITS[field - 1];
+    let v = match (field, random.below(8)) {
+        (3, 0..=3) => random.between(100, 260),
+        (_, 0) => high + 1,
+        (_, 1) => low - 1,
+        (_, 2) => high + random.between(1, 100),
+        (_, 3) => low - random.between(1, 100),
+        (_, 4) => right_value(random, field) + random.pick(&[1 << 8, 1 << 10, 1 << 12, 1 << 16, 1 << 24, 1 << 31]),
+        (_, 5) => random.pick(&[0x7FFF_FFFF, 0x8000_0000, 0x8000_0001, 0xFFFF_FFFF, 0x00FF_FFFF, 0x0100_0000]),
+        _ => random.next() as i64,
+    };
+    as_argument(field, v)
+}
+
+fn right_text(random: &mut Random, length: usize) -> Vec<u8> {
+    (0..length).map(|_| if random.below(8) == 0 { random.pick(b" ~!}") } else { random.between(0x20, 0x7E) as u8 }).collect()
+}
+
+/// A byte out of range in it, or another length.
+fn wrong_text(random: &mut Random, length: usize) -> Vec<u8> {
+    let mut text = right_text(random, length);
+    match random.below(6) {
+        0 => text.clear(),
+        1 => text.truncate(length - 1),
+        2 => text.push(b'x'),
+        3 => {
+            let other = random.below(2 * length);
+            text = right_text(random, other);
+        }
+        _ => {
+            let place = random.below(length);
+            text[place] = random.pick(&[0x00, 0x0A, 0x0D, 0x1F, 0x7F, 0x80, 0xA0, 0xFE, 0xFF]);
+        }
+    }
+    text
+}
+
+/// A name and trailing spaces, often none of the one or none of the other.
+fn right_owner(random: &mut Random) -> Vec<u8> {
+    let mut owner = right_text(random, 31);
+    let name = random.pick(&[0, 0, 1, 2, 5, 15, 29, 30, 31, 31]);
+    owner[name..].fill(b' ');
+    owner
+}
+
+/// Nothing wrong, one field wrong, or several: bit n - 1 stands for field or item n.
+fn wrongs(random: &mut Random, fields: usize) -> u32 {
+    let count = random.pick(&[0, 0, 0, 1, 1, 2, 3, 6]);
+    (0..count).fold(0, |set, _| set | 1 << random.below(fields))
+}
+
+fn right_record(random: &mut Random) -> Record {
+    let mut fields = [0; 11];
+    for field in 1..=11 {
+        fields[field - 1] = right_value(random, field);
+    }
+    Record { fields, serial: right_text(random, 9) }
+}
+
+fn any_record(random: &mut Random) -> Record {
+    let mut r = right_record(random);
+    let wrong = wrongs(random, 12);
+    for field in (1..=11).filter(|field| wrong >> (field - 1) & 1 == 1) {
+        r.fields[field - 1] = wrong_value(random, field);
+    }
+    if wrong >> 11 & 1 == 1 {
+        r.serial = wrong_text(random, 9);
+    }
+    r
+}
+
+fn right_fixed(random: &mut Random) -> Fixed {
+    Fixed {
+        serial: right_text(random, 9),
+        owner: right_owner(random),
+        kind: random.pick(b"PZ"),
+        focal: random.pick(&[0, 1, 50, 99, 100, 998, 999]),
+        maximum: random.between(0, 999) as u32,
+        letter: random.pick(b"IMBb"),
+        transmission: random.between(0, 99) as u32,
+        version: right_text(random, 4),
+    }
+}
+
+fn any_fixed(random: &mut Random) -> Fixed {
+    let mut f = right_fixed(random);
+    let wrong = wrongs(random, 8);
+    for item in (1..=8).filter(|item| wrong >> (item - 1) & 1 == 1) {
+        let past = |random: &mut Random, limit: u32| match random.below(3) {
+            0 => limit + 1,
+            1 => random.pick(&[limit + 2, limit + 256, limit + 65536, 0x8000_0000, 0xFFFF_FFFF]),
+            _ => random.next() as u32,
+        };
+        match item {
+            1 => f.serial = wrong_text(random, 9),
+            2 => f.owner = wrong_text(random, 31),
+            3 => f.kind = random.byte(),
+            4 => f.focal = past(random, 999),
+            5 => f.maximum = past(random, 999),
+            6 => f.letter = random.byte(),
+            7 => f.transmission = past(random, 99),
+            _ => f.version = wrong_text(random, 4),
+        }
+    }
+    f
+}
+
+// ---- the three forms as a reader meets them
+
+struct Form {
+    reader: &'static str,
+    /// Bytes before the checksum and LF CR.
+    contents: usize,
+    /// Bytes the exported reader puts out.
+    output: usize,
+    /// Widths of the message's fields or items in order, tags counted.
+    parts: &'static [usize],
+    /// A field or item, and what is worth trying in its place.
+    edges: &'static [(usize, &'static [&'static [u8]])],
+    right: fn(&mut Random, bool) -> Vec<u8>,
+    reference: fn(&[u8], bool, &mut [u8]) -> Outcome,
+    library: fn(&[u8], bool, &mut [u8]) -> Outcome,
+}
+
+const TEXT: Form = Form {
+    reader: "heron_read_text",
+    contents: 74,
+    output: 53,
+    parts: &[8, 5, 4, 2, 5, 8, 8, 8, 6, 5, 5, 10],
+    edges: &[
+        (1, &[b"D9999999", b"D0000000", b"d0000798", b"D   0798", b"D-000798"]),
+        (2, &[b"T4095", b"T4096", b"T9999", b"t0680"]),
+        (
+            3,
+            &[
+                b"t09.", b"t10.", b"t25.", b"t26.", b"t99.", b"t00.", b"t0.0", b"t9.9", b"t.99", b"t1..", b"t..1", b"t...",
+                b"t100", b"t 8.", b"t 8+", b"t5,6", b"T5.6",
+            ],
+        ),
+        (4, &[b"+9", b"+:", b"+/", b"-5"]),
+        (5, &[b"Z1023", b"Z1024", b"Z9999", b"z0000"]),
+        (6, &[b"H9999999", b"N0006123"]),
+        (7, &[b"N9999999"]),
+        (8, &[b"F999999:"]),
+        (9, &[b"V409.5", b"V409.6", b"V999.9", b"V27.30", b"V0273.", b"V02730"]),
+        (10, &[b"E-000", b"E+000", b"E-001", b"E-999", b"E+999", b"E 023", b"E0023", b"E--01"]),
+        (11, &[b"z1000", b"z1001", b"z9999", b"Z0000", b"z1.00"]),
+        (12, &[b"S         ", b"S~~~~~~~~~", b"S12345678\x7F", b"S\x1F23456789", b"s4050.0093"]),
+    ],
+    right: |random, with_sum| lens::text_message(&right_record(random), with_sum).unwrap(),
+    reference: lens::read_text,
+    library: library::read_text,
+};
+
+// Among the packed edges: distances 9,999,999 and 10,000,000, stops 250 and 251, 99 and 100 with and without bit 7, pupils minus
+// zero, 999 and 1000, zooms 1000 and 1001, and bits set where none may be.
+const PACKED: Form = Form {
+    reader: "heron_read_packed",
+    contents: 39,
+    output: 53,
+    parts: &[5, 2, 1, 1, 2, 4, 4, 4, 2, 2, 2, 10],
+    edges: &[
+        (1, &[b"d\x66\x49\x59\x7F", b"d\x66\x49\x5A\x40", b"d\x7F\x7F\x7F\x7F", b"D\x40\x40\x4C\x5E", b"d\x40\x40\x0C\x5E"]),
+        (2, &[b"\x7F\x7F", b"\x80\x40"]),
+        (3, &[b"\xFA", b"\xFB", b"\xE3", b"\xE4", b"\xE6", b"\xE7", b"\x82", b"\x38"]),
+        (4, &[b"\x80", b"\xC0", b"\xC9", b"\xCA", b"\x8F", b"\x95", b"\xA5", b"\x05", b"\x45"]),
+        (5, &[b"\x4F\x7F", b"\x50\x40", b"\x60\x40"]),
+        (6, &[b"\x66\x49\x59\x7F", b"\x66\x49\x5A\x40"]),
+        (7, &[b"\x66\x49\x5A\x40"]),
+        (8, &[b"\x66\x49\x5A\x40", b"\x7F\x7F\x7F\x7F"]),
+        (9, &[b"\x7F\x7F"]),
+        (
+            10,
+            &[
+                b"\x60\x40",
+                b"\x40\x40",
+                b"\x60\x41",
+                b"\x4F\x67",
+                b"\x4F\x68",
+                b"\x6F\x67",
+                b"\x6F\x68",
+                b"\x50\x40",
+                b"\x70\x40",
+                b"\x20\x40",
+            ],
+        ),
+        (11, &[b"\x4F\x68", b"\x4F\x69", b"\x50\x40"]),
+        (12, &[b"S         ", b"S~~~~~~~~~", b"S12345678\x7F", b"S\x1F23456789", b"s4050.0093"]),
+    ],
+    right: |random, with_sum| lens::packed_message(&right_record(random), with_sum).unwrap(),
+    reference: lens::read_packed,
+    library: library::read_packed,
+};
+
+const FIXED: Form = Form {
+    reader: "heron_read_fixed",
+    contents: 65,
+    output: 51,
+    parts: &[11, 32, 2, 4, 4, 2, 3, 7],
+    edges: &[
+        (1, &[b"nS4050.0093", b"Ns4050.0093", b"NS         ", b"NS\x7F050.0093", b"NS4050.009\x1F"]),
+        (
+            2,
+            &[
+                b"O                               ",
+                b"OA                              ",
+                b"O                              A",
+                b"OA                             \x1F",
+                b"OA                             \x7F",
+                b"OA                             \x00",
+                b"OA                             \xA0",
+                b"o                               ",
+            ],
+        ),
+        (3, &[b"LP", b"LZ", b"LA", b"Lp", b"lP"]),
+        (4, &[b"N999", b"N 50", b"N05:", b"f050"]),
+        (5, &[b"M000", b"M05/", b"N050"]),
+        (6, &[b"UI", b"UM", b"UB", b"Ub", b"Ui", b"Um", b"uI"]),
+        (7, &[b"T99", b"T9 ", b"T:0", b"E95"]),
+        (8, &[b"  B~~~~", b"  B4.3\x7F", b"  b4.34", b" B4.34 ", b"   B4.3", b"\x00 B4.34", b" \x00B4.34"]),
+    ],
+    right: |random, with_sum| lens::fixed_message(&right_fixed(random), with_sum).unwrap(),
+    reference: lens::read_fixed,
+    library: library::read_fixed,
+};
+
+fn part_start(form: &Form, part: usize) -> usize {
+    form.parts[..part - 1].iter().sum()
+}
+
+fn with_part(message: &[u8], form: &Form, part: usize, bytes: &[u8]) -> Vec<u8> {
+    let mut m = message.to_vec();
+    let start = part_start(form, part);
+    m[start..start + bytes.len()].copy_from_slice(bytes);
+    m
+}
+
+/// Puts LF CR at the end and, in checksum mode, the right checksum before it, so that a reader reaches the contents.
+fn reseal(m: &mut [u8], with_sum: bool) {
+    let Some(contents) = m.len().checked_sub(if with_sum { 4 } else { 2 }) else { return };
+    let (before, end) = m.split_at_mut(contents);
+    if with_sum {
+        end[..2].copy_from_slice(&lens::checksum(before));
+    }
+    let last = end.len() - 2;
+    end[last..].copy_from_slice(b"\n\r");
+}
+
+/// One damage: a byte changed, bytes cut or added, two fields exchanged, or an edge in a field's place.
+fn damage(random: &mut Random, form: &Form, m: &mut Vec<u8>) {
+    if m.len() < form.contents {
+        return m.push(random.byte());
+    }
+    let place = random.below(m.len());
+    let parts = form.parts.len();
+    match random.below(12) {
+        0 => m[place] = random.byte(),
+        1 => m[place] ^= 1 << random.below(8),
+        2 => m[place] = m[place].wrapping_add(random.pick(&[1, 255])),
+        3 => m[place] = random.pick(b"/0123456789:.+- @DTtZHNFVEzSdNOLMUB\n\r"),
+        4 => m.truncate(m.len() - 1 - random.below(3)),
+        5 => drop(m.drain(place..(place + 1 + random.below(3)).min(m.len()))),
+        6 => {
+            for _ in 0..=random.below(3) {
+                m.insert(place, random.byte());
+            }
+        }
+        7 | 8 => {
+            let (a, b) = (1 + random.below(parts), 1 + random.below(parts));
+            let (a, b) = (a.min(b), a.max(b));
+            if a != b {
+                let (start, end) = (part_start(form, a), part_start(form, b) + form.parts[b - 1]);
+                let middle = start + form.parts[a - 1]..part_start(form, b);
+                let exchanged = [&m[middle.end..end], &m[middle.clone()], &m[start..middle.start]].concat();
+                m[start..end].copy_from_slice(&exchanged);
+            }
+        }
+        _ => {
+            let (part, tries) = random.pick(form.edges);
+            *m = with_part(m, form, part, random.pick(tries));
+        }
+    }
+}
+
+// ---- comparing
+
+fn hex(bytes: &[u8]) -> String {
+    bytes.iter().map(|b| format!("{b:02X}")).collect::<Vec<_>>().join(" ")
+}
+
+fn shown_record(r: &Record, with_sum: bool) -> String {
+    let numbers: Vec<String> = r.fields.iter().map(|&v| format!("{:X}", v as u32)).collect();
+    format!("fields {:?}, in hex {}; serial {}; checksum {with_sum}", r.fields, numbers.join(" "), hex(&r.serial))
+}
+
+#[rustfmt::skip]
+fn shown_fixed(f: &Fixed, with_sum: bool) -> String {
+    format!(
+        "serial {}; owner {}; kind {:02X}; focal {:X}; maximum {:X}; letter {:02X}; transmission {:X}; version {}; checksum {with_sum}",
+        hex(&f.serial), hex(&f.owner), f.kind, f.focal, f.maximum, f.letter, f.transmission, hex(&f.version)
+    )
+}
+
+fn shown_message(m: &[u8], with_sum: bool) -> String {
+    format!("message {} ({} bytes); checksum {with_sum}", hex(m), m.len())
+}
+
+/// What an entry's cases came to: how many had each number, and (a bit each) which fields or items were refused.
+#[derive(Default)]
+struct Tally {
+    entry: &'static str,
+    numbers: [u64; 9],
+    fields: u32,
+}
+
+impl Tally {
+    fn cases(&self) -> u64 {
+        self.numbers.iter().sum()
+    }
+
+    fn line(&self) -> String {
+        let mut line = format!("{:20} {:>9} cases: done {}", self.entry, self.cases(), self.numbers[0]);
+        for (number, count) in self.numbers.iter().enumerate().skip(1).filter(|(_, &count)| count != 0) {
+            line += &format!(", refused {number}: {count}");
+            if [1, 6, 8].contains(&number) {
+                line += &format!(" (in {} fields)", self.fields.count_ones());
+            }
+        }
+        line
+    }
+}
+
+struct Test {
+    seed: u64,
+    random: Random,
+    tallies: Vec<Tally>,
+    differences: u64,
+}
+
+impl Test {
+    fn count(&mut self, entry: &'static str, right: Outcome) {
+        let place = self.tallies.iter().position(|tally| tally.entry == entry).unwrap_or_else(|| {
+            self.tallies.push(Tally { entry, ..Tally::default() });
+            self.tallies.len() - 1
+        });
+        let tally = &mut self.tallies[place];
+        let Refusal { number, value } = right.err().unwrap_or(Refusal { number: 0, value: 0 });
+        tally.numbers[number as usize] += 1;
+        if [1, 6, 8].contains(&number) && (1..=12).contains(&value) {
+            tally.fields |= 1 << value;
+        }
+    }
+
+    fn differ(&mut self, entry: &str, input: String, reference: String, library: String) {
+        self.differences += 1;
+        println!("DIFFERENCE in {entry}");
+        println!("  input     {input}");
+        println!("  reference {reference}");
+        println!("  library   {library}");
+        println!("  seed      {}", self.seed);
+        if self.differences == MOST_REPORTS {
+            println!("differential: stopped after {MOST_REPORTS} differences");
+            exit(1);
+        }
+    }
+
+    fn compare(&mut self, entry: &'static str, right: Outcome, found: Outcome, input: impl Fn() -> String) {
+        self.count(entry, right);
+        if right != found {
+            self.differ(entry, input(), format!("{right:?}"), format!("{found:?}"));
+        }
+    }
+
+    /// Lends `room` bytes to each, guard bytes on both sides, and compares the answers and the whole memory.
+    fn lend(
+        &mut self,
+        entry: &'static str,
+        room: usize,
+        reference: impl Fn(&mut [u8]) -> Outcome,
+        library: impl Fn(&mut [u8]) -> Outcome,
+        input: impl Fn() -> String,
+    ) {
+        let lent = GUARD..GUARD + room;
+        let mut memory = [GUARD_BYTE; GUARD + LONGEST_ROOM + GUARD];
+        memory[lent.clone()].fill(self.random.byte());
+        let (mut right, mut found) = (memory, memory);
+        let right_answer = reference(&mut right[lent.clone()]);
+        let found_answer = library(&mut found[lent.clone()]);
+        self.count(entry, right_answer);
+        if right_answer != found_answer || right != found || (found_answer.is_err() && found != memory) {
+            let shown = |answer: Outcome, memory: &[u8]| {
+                let (before, after) = (&memory[..GUARD], &memory[lent.end..]);
+                let guards = if before.iter().chain(after).all(|&b| b == GUARD_BYTE) { "kept" } else { "CHANGED" };
+                format!("{answer:?}; lent memory {}; guards {guards}", hex(&memory[lent.clone()]))
+            };
+            let (right, found) = (shown(right_answer, &right), shown(found_answer, &found));
+            self.differ(entry, format!("{}; room {room}", input()), right, found);
+        }
+    }
+
+    fn room(&mut self, needed: usize) -> usize {
+        match self.random.below(16) {
+            0 => 0,
+            1 => needed - 1,
+            2 => needed - 2,
+            3 => needed + 1,
+            4 => needed + 2,
+            5 => self.random.below(LONGEST_ROOM + 1),
+            6..=10 => needed + self.random.below(8),
+            _ => needed,
+        }
+    }
+
+    fn write_text(&mut self, r: &Record, with_sum: bool, room: usize) {
+        self.lend(
+            "heron_write_text",
+            room,
+            |out| lens::write_text(r, with_sum, out),
+            |out| library::write_text(r, with_sum, out),
+            || shown_record(r, with_sum),
+        );
+    }
+
+    fn write_packed(&mut self, r: &Record, with_sum: bool, room: usize) {
+        self.lend(
+            "heron_write_packed",
+            room,
+            |out| lens::write_packed(r, with_sum, out),
+            |out| library::write_packed(r, with_sum, out),
+            || shown_record(r, with_sum),
+        );
+    }
+
+    fn write_fixed(&mut self, f: &Fixed, with_sum: bool, room: usize) {
+        self.lend(
+            "heron_write_fixed",
+            room,
+            |out| lens::write_fixed(f, with_sum, out),
+            |out| library::write_fixed(f, with_sum, out),
+            || shown_fixed(f, with_sum),
+        );
+    }
+
+    fn read(&mut self, form: &Form, m: &[u8], with_sum: bool, room: usize) {
+        self.lend(
+            form.reader,
+            room,
+            |out| (form.reference)(m, with_sum, out),
+            |out| (form.library)(m, with_sum, out),
+            || shown_message(m, with_sum),
+        );
+        if form.reader == FIXED.reader {
+            let input = || shown_message(m, with_sum);
+            self.compare("heron_owner_start", lens::owner_start(m, with_sum), library::owner_start(m, with_sum), input);
+            self.compare("heron_owner_len", lens::owner_len(m, with_sum), library::owner_len(m, with_sum), input);
+        }
+    }
+
+    fn convert(&mut self, field: u32, number: i32, unit: u8, wanted: u8) {
+        let answer = lens::convert(field, number, unit, wanted);
+        let right = match answer {
+            Ok(value) => Converted { number: 0, field: 0, value },
+            Err(refusal) => Converted { number: refusal.number, field: refusal.value as u32, value: 0 },
+        };
+        let found = library::convert(field, number, unit, wanted);
+        self.count("heron_convert", answer.map(|_| 0));
+        if right != found {
+            let input = format!("field {field:X}; number {number:X} ({number}); unit {unit:02X}; wanted {wanted:02X}");
+            self.differ("heron_convert", input, format!("{right:?}"), format!("{found:?}"));
+        }
+    }
+
+    fn checksum(&mut self, bytes: &[u8]) {
+        let [first, second] = lens::checksum(bytes).map(usize::from);
+        self.compare("heron_checksum", Ok(first * 256 + second), library::checksum(bytes), || hex(bytes));
+    }
+
+    // ---- random cases
+
+    fn random_write(&mut self) {
+        let with_sum = self.random.flag();
+        let extra = if with_sum { 4 } else { 2 };
+        let r = any_record(&mut self.random);
+        let room = self.room(TEXT.contents + extra);
+        self.write_text(&r, with_sum, room);
+        let r = any_record(&mut self.random);
+        let room = self.room(PACKED.contents + extra);
+        self.write_packed(&r, with_sum, room);
+        let f = any_fixed(&mut self.random);
+        let room = self.room(FIXED.contents + extra);
+        self.write_fixed(&f, with_sum, room);
+    }
+
+    fn random_read(&mut self, form: &Form) {
+        let random = &mut self.random;
+        let with_sum = random.flag();
+        let mut m = (form.right)(random, with_sum);
+        let mut told = with_sum;
+        match random.below(12) {
+            0 | 1 => {}
+            2 | 3 => damage(random, form, &mut m),
+            4..=8 => {
+                for _ in 0..random.pick(&[1, 1, 1, 2, 3]) {
+                    damage(random, form, &mut m);
+                }
+                reseal(&mut m, with_sum);
+            }
+            9 => {
+                m = (0..m.len()).map(|_| random.byte()).collect();
+                if random.flag() {
+                    reseal(&mut m, with_sum);
+                }
+            }
+            10 => {
+                // Right at the front, anything from some place on.
+                let place = random.below(form.contents);
+                m[place..form.contents].iter_mut().for_each(|b| *b = random.byte());
+                reseal(&mut m, with_sum);
+            }
+            _ => told = !with_sum,
+        }
+        let room = self.room(form.output);
+        self.read(form, &m, told, room);
+    }
+
+    fn random_convert(&mut self) {
+        let random = &mut self.random;
+        let field = match random.below(8) {
+            0 => random.next() as u32,
+            1 => random.below(16) as u32,
+            _ => random.pick(&[1, 6, 7, 8, 10]),
+        };
+        let number = match random.below(4) {
+            0 => random.next() as i32,
+            1 => random.between(-1100, 1100) as i32,
+            2 => random
+                .pick(&[0, 9_999_999, 3_937_007, 999, -999, 393, -393, 25, -25, i32::MAX, i32::MIN])
+                .wrapping_add(random.between(-2, 2) as i32),
+            _ => random.between(0, 10_500_000) as i32,
+        };
+        let letter = |random: &mut Random| if random.below(8) == 0 { random.byte() } else { random.pick(b"IM") };
+        let (unit, wanted) = (letter(random), letter(random));
+        self.convert(field, number, unit, wanted);
+    }
+
+    fn random_checksum(&mut self) {
+        let length = self.random.pick(&[0, 1, 2, 39, 65, 74, 300]);
+        let length = self.random.below(length + 1);
+        let bytes: Vec<u8> = (0..length).map(|_| self.random.byte()).collect();
+        self.checksum(&bytes);
+    }
+
+    // ---- exhaustive cases
+
+    /// Every room from none to past the longest message, for what is done and what is refused.
+    fn every_room(&mut self) {
+        for with_sum in [false, true] {
+            for room in 0..=LONGEST_ROOM {
+                let mut r = right_record(&mut self.random);
+                self.write_text(&r, with_sum, room);
+                self.write_packed(&r, with_sum, room);
+                r.serial.pop();
+                self.write_text(&r, with_sum, room);
+                self.write_packed(&r, with_sum, room);
+                let mut f = right_fixed(&mut self.random);
+                self.write_fixed(&f, with_sum, room);
+                f.version.push(b' ');
+                self.write_fixed(&f, with_sum, room);
+                for form in [TEXT, PACKED, FIXED] {
+                    let mut m = (form.right)(&mut self.random, with_sum);
+                    self.read(&form, &m, with_sum, room);
+                    self.read(&form, &m, !with_sum, room);
+                    m[0] = b'!';
+                    self.read(&form, &m, with_sum, room);
+                    reseal(&mut m, with_sum);
+                    self.read(&form, &m, with_sum, room);
+                    m.reverse();
+                    self.read(&form, &m, with_sum, room);
+                }
+            }
+        }
+    }
+
+    /// Every byte of a message as each of the 256, left so and resealed; every length, left so and resealed.
+    fn every_byte_and_length(&mut self, form: &Form) {
+        for with_sum in [false, true] {
+            for _ in 0..3 {
+                let right = (form.right)(&mut self.random, with_sum);
+                for place in 0..right.len() {
+                    for byte in 0..=255 {
+                        let mut m = right.clone();
+                        m[place] = byte;
+                        self.read(form, &m, with_sum, form.output);
+                        reseal(&mut m, with_sum);
+                        self.read(form, &m, with_sum, form.output);
+                    }
+                }
+                let long = [&right[..], &right[..]].concat();
+                for length in 0..=long.len() {
+                    let mut m = long.clone();
+                    self.read(form, &m[..length], with_sum, form.output);
+                    reseal(&mut m[..length], with_sum);
+                    self.read(form, &m[..length], with_sum, form.output);
+                }
+            }
+            for (part, bytes) in form.edges.iter().flat_map(|&(part, tries)| tries.iter().map(move |&bytes| (part, bytes))) {
+                let mut m = with_part(&(form.right)(&mut self.random, with_sum), form, part, bytes);
+                self.read(form, &m, with_sum, form.output);
+                reseal(&mut m, with_sum);
+                self.read(form, &m, with_sum, form.output);
+            }
+        }
+    }
+
+    /// Every pair of bytes in each packed field of two bytes, stop and tenth among them.
+    fn every_packed_pair(&mut self) {
+        let right = (PACKED.right)(&mut self.random, false);
+        for field in [2, 3, 5, 9, 10, 11] {
+            for pair in 0..=u16::MAX {
+                let m = with_part(&right, &PACKED, field, &pair.to_be_bytes());
+                self.read(&PACKED, &m, false, PACKED.output);
+            }
+        }
+    }
+
+    /// Every number of the text record's short fields and of the fixed data; every stop of three digits and points.
+    fn every_text_number(&mut self) {
+        let right = (TEXT.right)(&mut self.random, false);
+        for n in 0..10_000 {
+            for (field, text) in [
+                (2, format!("T{n:04}")),
+                (5, format!("Z{n:04}")),
+                (9, format!("V{:03}.{}", n / 10, n % 10)),
+                (10, format!("E{}{:03}", ['+', '-', ' ', '0', '.', ',', '*', '/', '1', 'E'][n / 1000], n % 1000)),
+                (11, format!("z{n:04}")),
+            ] {
+                let m = with_part(&right, &TEXT, field, text.as_bytes());
+                self.read(&TEXT, &m, false, TEXT.output);
+            }
+        }
+        let signs = b"0123456789.";
+        for n in 0..11 * 11 * 11 {
+            let stop = [b't', signs[n / 121], signs[n / 11 % 11], signs[n % 11]];
+            let m = with_part(&right, &TEXT, 3, &stop);
+            self.read(&TEXT, &m, false, TEXT.output);
+        }
+        let right = (FIXED.right)(&mut self.random, false);
+        for n in 0..1000 {
+            for (item, text) in [(4, format!("N{n:03}")), (5, format!("M{n:03}")), (7, format!("T{:02}", n % 100))] {
+                let m = with_part(&right, &FIXED, item, text.as_bytes());
+                self.read(&FIXED, &m, false, FIXED.output);
+            }
+        }
+    }
+
+    /// Every small number, and those around the powers of two and the longest distance, in every field of a writer.
+    fn every_written_number(&mut self) {
+        let near = [9_999_999, 1 << 24, 1 << 16, 1 << 31, 1 << 32];
+        let numbers = (-1100..=5000).chain(near.into_iter().flat_map(|n| n - 50..=n + 50));
+        for n in numbers {
+            for field in 1..=11 {
+                let mut r = right_record(&mut self.random);
+                r.fields[field - 1] = as_argument(field, n);
+                self.write_text(&r, false, 76);
+                self.write_packed(&r, false, 41);
+            }
+            for item in [4, 5, 7] {
+                let mut f = right_fixed(&mut self.random);
+                match item {
+                    4 => f.focal = n as u32,
+                    5 => f.maximum = n as u32,
+                    _ => f.transmission = n as u32,
+                }
+                self.write_fixed(&f, false, 67);
+            }
+        }
+        for byte in 0..=255 {
+            for place in 0..9 {
+                let mut r = right_record(&mut self.random);
+                r.serial[place] = byte;
+                self.write_text(&r, true, 78);
+                self.write_packed(&r, true, 43);
+            }
+            let mut f = right_fixed(&mut self.random);
+            f.kind = byte;
+            self.write_fixed(&f, true, 69);
+            let mut f = right_fixed(&mut self.random);
+            f.letter = byte;
+            self.write_fixed(&f, true, 69);
+        }
+    }
+
+    /// Every distance and pupil of either unit and a little past its limits, every pair of letters, every small field.
+    fn every_conversion(&mut self) {
+        for (unit, wanted, last) in [(b'M', b'I', 9_999_999), (b'I', b'M', 3_937_007)] {
+            for n in -1000..=last + 1000 {
+                self.convert([1, 6, 7, 8][(n & 3) as usize], n, unit, wanted);
+            }
+            for n in -1100..=1100 {
+                self.convert(10, n, unit, wanted);
+                self.convert(10, n, unit, unit);
+            }
+            for field in 0..=300 {
+                for n in [-1000, -999, -394, -393, 0, 393, 394, 999, 1000, last, last + 1] {
+                    self.convert(field, n, unit, wanted);
+                    self.convert(field, n, unit, unit);
+                }
+            }
+        }
+        for unit in 0..=255 {
+            for wanted in 0..=255 {
+                self.convert(1, 100, unit, wanted);
+                self.convert(2, -1, unit, wanted);
+            }
+        }
+    }
+}
+
+fn main() {
+    let mut arguments = std::env::args().skip(1).map(|word| word.parse::<u64>());
+    let (Ok(seed), Ok(cases)) = (arguments.next().unwrap_or(Ok(1)), arguments.next().unwrap_or(Ok(1_000_000))) else {
+        eprintln!("usage: differential [seed [random cases per entry]]");
+        exit(2);
+    };
+    println!("differential: seed {seed}, {cases} random cases per entry beside the exhaustive ones");
+    let mut test = Test { seed, random: Random(seed), tallies: Vec::new(), differences: 0 };
+
+    test.every_room();
+    for form in [TEXT, PACKED, FIXED] {
+        test.every_byte_and_length(&form);
+    }
+    test.every_packed_pair();
+    test.every_text_number();
+    test.every_written_number();
+    test.every_conversion();
+    for _ in 0..cases {
+        test.random_write();
+        for form in [TEXT, PACKED, FIXED] {
+            test.random_read(&form);
+        }
+        test.random_convert();
+        test.random_checksum();
+    }
+
+    for tally in &test.tallies {
+        println!("{}", tally.line());
+    }
+    let total: u64 = test.tallies.iter().map(Tally::cases).sum();
+    println!("differential: {total} cases, {} differences", test.differences);
+    exit(if test.differences == 0 { 0 } else { 1 });
+}
