@@ -1,0 +1,71 @@
+-- The promises of the driver's call, by the run of slots that it is. Assumes nothing.
+use Prim.Native.Nat.{ℕ, zero, suc, _≤_}
+use mathlib.Core.Bool.{Bool, true, false, cond}
+use mathlib.Core.List.{List, [], _∷_}
+use mathlib.Core.Path.{_≡_, refl, sym, ap, subst, _∙_}
+use native.Mathlib.Omega.{arith}
+use lib.ListN.{length}
+use Rattle.laws.proofs.Tests.{cond-yes, cond-no, told}
+use Rattle.refusal.specs.declared.Refusal.{Refusal}
+use Rattle.refusal.specs.declared.Verdict.the-variants.{Done, Refused}
+use Rattle.port.specs.declared.Port.{Port}
+use Rattle.port.specs.declared.Sent.{Sent}
+use Rattle.port.specs.declared.Sent.the-variants as sent
+use Rattle.port.specs.Port.{validPort, slotOf}
+use Rattle.port.proofs.Valid.{slot-fine}
+use Rattle.fill.specs.declared.Filled.{Filled}
+use Rattle.fill.specs.Fill.{Run, thenRun, runOf, fillOf, fillLeaves}
+use Rattle.fill.specs.Promises.{Promised}
+
+-- a refused call is one of a port that is not valid
+was-invalid : (p : Port) (n : ℕ) (r : Refusal) → fillOf p n .verdict ≡ Refused r → validPort p ≡ false
+unfolding fillOf
+was-invalid p n r e =
+    told (validPort p)
+    (λ v. absurd (let z : Done ≡ Refused r = sym (ap (λ (x : Filled). x .verdict) (cond-yes _ _ v)) ∙ e in let y : _≡_ {A = ℕ} 0 1 = cc in omega arith))
+    (λ f. f)
+
+refused-port : (p : Port) (n : ℕ) (r : Refusal) → fillOf p n .verdict ≡ Refused r → fillOf p n .port ≡ p
+unfolding fillOf
+refused-port p n r e = ap (λ (x : Filled). x .port) (cond-no _ _ (was-invalid p n r e))
+
+refused-bytes : (p : Port) (out : List ℕ) (r : Refusal) → fillOf p (length out) .verdict ≡ Refused r → fillLeaves p out ≡ out
+unfolding fillLeaves
+refused-bytes p out r e = cond-no _ _ (was-invalid p (length out) r e)
+
+then-most : (t : Sent) (q : Port) (r : Run) (n : ℕ) → length (r .bytes) ≤ n → length (thenRun t q r .bytes) ≤ suc n
+then-most (sent.Byte b) q r n h = omega arith
+then-most sent.Idle q r n h = omega arith
+then-most (sent.Refused x) q r n h = omega arith
+
+at-most : (p : Port) (n : ℕ) → length (runOf n p .bytes) ≤ n
+unfolding runOf
+at-most p zero = omega arith
+at-most p (suc n) = then-most (slotOf p .sent) (slotOf p .port) (runOf n (slotOf p .port)) n (at-most (slotOf p .port) n)
+
+then-valid : (t : Sent) (q : Port) (r : Run) → validPort q ≡ true → validPort (r .port) ≡ true → validPort (thenRun t q r .port) ≡ true
+then-valid (sent.Byte b) q r h k = k
+then-valid sent.Idle q r h k = h
+then-valid (sent.Refused x) q r h k = h
+
+run-valid : (n : ℕ) (p : Port) → validPort p ≡ true → validPort (runOf n p .port) ≡ true
+unfolding runOf
+run-valid zero p v = v
+run-valid (suc n) p v =
+    let w = slot-fine p v .valid in
+    then-valid (slotOf p .sent) (slotOf p .port) (runOf n (slotOf p .port)) w (run-valid n (slotOf p .port) w)
+
+kept-valid : (p : Port) (n : ℕ) → validPort p ≡ true → validPort (fillOf p n .port) ≡ true
+unfolding fillOf
+kept-valid p n v = subst (λ (x : Filled). validPort (x .port) ≡ true) (sym (cond-yes _ _ v)) (run-valid n p v)
+
+empty : (p : Port) → fillOf p 0 .port ≡ p
+unfolding fillOf runOf
+empty p = told (validPort p) (λ v. ap (λ (x : Filled). x .port) (cond-yes _ _ v)) (λ n. ap (λ (x : Filled). x .port) (cond-no _ _ n))
+
+none : (p : Port) → fillOf p 0 .count ≡ 0
+unfolding fillOf runOf
+none p = told (validPort p) (λ v. ap (λ (x : Filled). x .count) (cond-yes _ _ v)) (λ n. ap (λ (x : Filled). x .count) (cond-no _ _ n))
+
+pub promised : Promised
+promised = record { refused-port = refused-port; refused-bytes = refused-bytes; at-most = at-most; empty = empty; none = none; kept-valid = kept-valid }

@@ -1,0 +1,173 @@
+-- A refusal changes no state, and a valid port stays valid: entry by entry. Assumes nothing.
+use Prim.Native.Nat.{ℕ}
+use mathlib.Core.Bool.{Bool, true, false, _&&_, _||_, cond}
+use mathlib.Core.Path.{_≡_, refl, sym, ap, subst, _∙_}
+use native.Mathlib.Omega.{arith}
+use lib.Dec.{eqb}
+use Rattle.laws.proofs.Tests.{and-right, and-both, cond-no, told}
+use Rattle.refusal.specs.declared.Refusal.{Refusal}
+use Rattle.refusal.specs.declared.Refusal.the-variants as refusal
+use Rattle.refusal.specs.declared.Verdict.{Verdict}
+use Rattle.refusal.specs.declared.Verdict.the-variants.{Done, Refused}
+use Rattle.fixed.specs.Fixed.{settingsLowest}
+use Rattle.fixed.specs.declared.Settings.{Settings}
+use Rattle.units.specs.Units.{isUnit}
+use Rattle.units.specs.Measurement.{measurementVerdict}
+use Rattle.units.specs.declared.Measurement.{Measurement}
+use Rattle.line.specs.declared.Line.{Line}
+use Rattle.line.specs.Line.{blank, joined, validLine}
+use Rattle.line.proofs.Laws.{blank-valid, joined-valid}
+use Rattle.state.specs.State.{isDone, messageOf, validModes, validMessage, validSource}
+use Rattle.rules.specs.Lens.{greeting, measured}
+use Rattle.rules.proofs.Kept.{measured-valid}
+use Rattle.port.specs.declared.Port.{Port}
+use Rattle.port.specs.declared.Slotted.{Slotted}
+use Rattle.port.specs.declared.Received.{Received}
+use Rattle.port.specs.declared.Handed.{Handed}
+use Rattle.port.specs.declared.Sent.the-variants as sent
+use Rattle.port.specs.Port.{validPort, slotOf, takenPort, takenOf, receiveOf, handed, measuredPort, measureOf, unitOf, started, startOf}
+use Rattle.port.specs.Promises.{RefusedSame, KeptValid}
+use Rattle.port.proofs.Valid.{source-valid, message-valid, line-valid, made-valid, slot-fine}
+
+-- by a test: what holds of both branches holds of the choice
+by : {A : Type 0} (P : A → Type 0) (b : Bool) (x y : A) → (b ≡ true → P x) → (b ≡ false → P y) → P (cond b x y)
+by P true x y f g = f refl
+by P false x y f g = g refl
+
+-- ---- refusals
+
+refused : (p : Port) → validPort p ≡ false → slotOf p ≡ record { sent = sent.Refused refusal.State; port = p }
+unfolding slotOf
+refused p n = cond-no _ _ n
+
+slot-same : (p : Port) (r : Refusal) → slotOf p .sent ≡ sent.Refused r → slotOf p .port ≡ p
+slot-same p r e =
+    told (validPort p) (λ v. absurd (slot-fine p v .answers r e)) (λ n. ap (λ (x : Slotted). x .port) (refused p n))
+
+-- what a received byte leaves where it is refused: the port, and the line by the number
+pub record Same (p : Port) (l : Line) (x : Received) : Type 0 where
+  pub port : (r : Refusal) → x .verdict ≡ Refused r → x .port ≡ p
+  pub with-16 : x .verdict ≡ Refused refusal.State → x .line ≡ l
+  pub with-7 : x .verdict ≡ Refused refusal.Dropped → x .line ≡ blank
+
+done-same : (p q : Port) (l k : Line) → Same p l (record { verdict = Done; port = q; line = k })
+done-same p q l k = record {
+  port = λ r e. absurd (let z : _≡_ {A = ℕ} 0 1 = cc in omega arith);
+  with-16 = λ e. absurd (let z : _≡_ {A = ℕ} 0 1 = cc in omega arith);
+  with-7 = λ e. absurd (let z : _≡_ {A = ℕ} 0 1 = cc in omega arith);
+}
+
+taken-same : (p : Port) (l : Line) → Same p l (takenOf p l)
+unfolding takenOf
+taken-same p l =
+    by (Same p l) (p .waiting .some) _ _
+    (λ y. record { port = λ r e. refl; with-16 = λ e. absurd (let z : _≡_ {A = ℕ} 0 1 = cc in omega arith); with-7 = λ e. refl })
+    (λ n. done-same p (takenPort p l) l blank)
+
+receive-same : (p : Port) (l : Line) (b : ℕ) → Same p l (receiveOf p l b)
+unfolding receiveOf
+receive-same p l b =
+    by (Same p l) (validPort p && validLine l) _ _
+    (λ v. by (Same p l) (eqb b 13) _ _ (λ y. taken-same p l) (λ n. done-same p p l (joined l b)))
+    (λ n. record { port = λ r e. refl; with-16 = λ e. refl; with-7 = λ e. absurd (let z : _≡_ {A = ℕ} 0 1 = cc in omega arith) })
+
+handed-same : (v : Verdict) (new old : Port) (r : Refusal) → handed v new old .verdict ≡ Refused r → handed v new old .port ≡ old
+unfolding handed
+handed-same Done new old r e = absurd (let z : _≡_ {A = ℕ} 0 1 = cc in omega arith)
+handed-same (Refused x) new old r e = refl
+
+measure-same : (p : Port) (m : Measurement) (r : Refusal) → measureOf p m .verdict ≡ Refused r → measureOf p m .port ≡ p
+unfolding measureOf
+measure-same p m r =
+    by (λ (x : Handed). x .verdict ≡ Refused r → x .port ≡ p) (validPort p) _ _
+    (λ v e. handed-same (measurementVerdict m) (measuredPort p m) p r e)
+    (λ n e. refl)
+
+start-same : (old : Port) (s : Settings) (m : Measurement) (r : Refusal) → startOf old s m .verdict ≡ Refused r → startOf old s m .port ≡ old
+unfolding startOf
+start-same old s m r =
+    by (λ (x : Handed). x .verdict ≡ Refused r → x .port ≡ old) (eqb (settingsLowest s) 0) _ _
+    (λ v e. handed-same (measurementVerdict m) (started s m) old r e)
+    (λ n e. refl)
+
+pub refused-same : RefusedSame
+refused-same = record {
+  slot = slot-same;
+  receive = λ p l b. receive-same p l b .port;
+  receive-16 = λ p l b. receive-same p l b .with-16;
+  receive-7 = λ p l b. receive-same p l b .with-7;
+  measure = measure-same;
+  start = start-same;
+}
+
+-- ---- validity
+
+unit-ok : (l : ℕ) → isUnit (unitOf l) ≡ true
+unfolding unitOf
+unit-ok l = by (λ (u : ℕ). isUnit u ≡ true) (eqb l 73 || eqb l 66) 73 77 (λ y. refl) (λ n. refl)
+
+started-valid : (s : Settings) (m : Measurement) → eqb (settingsLowest s) 0 ≡ true → measurementVerdict m ≡ Done → validPort (started s m) ≡ true
+unfolding validSource validModes validMessage
+started-valid s m a b =
+    made-valid (started s m)
+    (and-both a (and-both (ap isDone b) (and-both {b = isUnit (unitOf (s .fixed .letter)) && true} refl (and-both (unit-ok (s .fixed .letter)) refl))))
+    refl
+    blank-valid
+
+handed-valid : (v : Verdict) (new old : Port) → (v ≡ Done → validPort new ≡ true) → handed v new old .verdict ≡ Done → validPort (handed v new old .port) ≡ true
+unfolding handed
+handed-valid Done new old h e = h refl
+handed-valid (Refused x) new old h e = absurd (let z : _≡_ {A = ℕ} 0 1 = cc in omega arith)
+
+start-valid : (old : Port) (s : Settings) (m : Measurement) → startOf old s m .verdict ≡ Done → validPort (startOf old s m .port) ≡ true
+unfolding startOf
+start-valid old s m =
+    by (λ (x : Handed). x .verdict ≡ Done → validPort (x .port) ≡ true) (eqb (settingsLowest s) 0) _ _
+    (λ y e. handed-valid (measurementVerdict m) (started s m) old (started-valid s m y) e)
+    (λ n e. absurd (let z : _≡_ {A = ℕ} 0 1 = cc in omega arith))
+
+slot-valid : (p : Port) → validPort p ≡ true → validPort (slotOf p .port) ≡ true
+slot-valid p v = slot-fine p v .valid
+
+-- a line that is taken was tested
+receive-valid : (p : Port) (l : Line) (b : ℕ) → validPort p ≡ true → validPort (receiveOf p l b .port) ≡ true
+unfolding receiveOf takenOf
+receive-valid p l b v =
+    let P : Received → Type 0 = λ x. validPort (x .port) ≡ true in
+    by P (validPort p && validLine l) _ _
+    (λ t.
+        by P (eqb b 13) _ _
+        (λ y. by P (p .waiting .some) _ _ (λ w. v) (λ w. made-valid (takenPort p l) (source-valid p v) (message-valid p v) (and-right (validPort p) (validLine l) t)))
+        (λ n. v))
+    (λ n. v)
+
+kept-line : (p : Port) (l : Line) (b : ℕ) → validLine l ≡ true → validLine (receiveOf p l b .line) ≡ true
+unfolding receiveOf takenOf
+kept-line p l b v =
+    let P : Received → Type 0 = λ x. validLine (x .line) ≡ true in
+    by P (validPort p && validLine l) _ _
+    (λ t. by P (eqb b 13) _ _ (λ y. by P (p .waiting .some) _ _ (λ w. blank-valid) (λ w. blank-valid)) (λ n. joined-valid l b v))
+    (λ n. v)
+
+-- an accepted measurement in a valid port
+measured-fits : (p : Port) (m : Measurement) → validPort p ≡ true → measurementVerdict m ≡ Done → validPort (measuredPort p m) ≡ true
+unfolding measured
+measured-fits p m v d =
+    made-valid (measuredPort p m)
+    (subst (λ (b : Bool). validSource (cond b (measuredPort p m .source) (p .source)) ≡ true) (ap isDone d) (measured-valid (p .source) m (source-valid p v)))
+    (message-valid p v) (line-valid p v)
+
+measure-by : (v : Verdict) (new old : Port) → (v ≡ Done → validPort new ≡ true) → validPort old ≡ true → validPort (handed v new old .port) ≡ true
+unfolding handed
+measure-by Done new old h k = h refl
+measure-by (Refused x) new old h k = k
+
+measure-valid : (p : Port) (m : Measurement) → validPort p ≡ true → validPort (measureOf p m .port) ≡ true
+unfolding measureOf
+measure-valid p m v =
+    by (λ (x : Handed). validPort (x .port) ≡ true) (validPort p) _ _
+    (λ y. measure-by (measurementVerdict m) (measuredPort p m) p (measured-fits p m v) v)
+    (λ n. v)
+
+pub kept-valid : KeptValid
+kept-valid = record { start = start-valid; slot = slot-valid; receive = receive-valid; line = kept-line; measure = measure-valid }
