@@ -30,7 +30,7 @@ use Rattle.port.specs.Promises.{RefusedSame, KeptValid}
 use Rattle.port.proofs.Valid.{source-valid, message-valid, line-valid, made-valid, slot-fine}
 
 -- by a test: what holds of both branches holds of the choice
-by : {A : Type 0} (P : A → Type 0) (b : Bool) (x y : A) → (b ≡ true → P x) → (b ≡ false → P y) → P (cond b x y)
+pub by : {A : Type 0} (P : A → Type 0) (b : Bool) (x y : A) → (b ≡ true → P x) → (b ≡ false → P y) → P (cond b x y)
 by P true x y f g = f refl
 by P false x y f g = g refl
 
@@ -136,9 +136,9 @@ receive-valid p l b v =
     let P : Received → Type 0 = λ x. validPort (x .port) ≡ true in
     by P (validPort p && validLine l) _ _
     (λ t.
-        by P (eqb b 13) _ _
-        (λ y. by P (p .waiting .some) _ _ (λ w. v) (λ w. made-valid (takenPort p l) (source-valid p v) (message-valid p v) (and-right (validPort p) (validLine l) t)))
-        (λ n. v))
+    by P (eqb b 13) _ _
+    (λ y. by P (p .waiting .some) _ _ (λ w. v) (λ w. made-valid (takenPort p l) (source-valid p v) (message-valid p v) (and-right (validPort p) (validLine l) t)))
+    (λ n. v))
     (λ n. v)
 
 kept-line : (p : Port) (l : Line) (b : ℕ) → validLine l ≡ true → validLine (receiveOf p l b .line) ≡ true

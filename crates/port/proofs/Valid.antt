@@ -99,10 +99,10 @@ choose-fine p v =
     told (continuous (p .source) && isReply (p .last))
     (λ y. subst Fine (sym (cond-yes _ _ y)) (record-fine p v))
     (λ n.
-        subst Fine (sym (cond-no _ _ n))
-        (told (p .waiting .some)
-        (λ y. subst Fine (sym (cond-yes _ _ y)) (act-fine p v))
-        (λ m. subst Fine (sym (cond-no _ _ m)) (rest-fine p v))))
+    subst Fine (sym (cond-no _ _ n))
+    (told (p .waiting .some)
+    (λ y. subst Fine (sym (cond-yes _ _ y)) (act-fine p v))
+    (λ m. subst Fine (sym (cond-no _ _ m)) (rest-fine p v))))
 
 pub slot-fine : (p : Port) → validPort p ≡ true → Fine (slotOf p)
 unfolding slotOf

@@ -1,0 +1,92 @@
+-- Demand 3 for the port itself: every sequence of calls of receive, slot, measure and fill is a run of the machine, from the state that a start
+-- leaves; a fill counts as the slots it runs. Statements only.
+use Prim.Native.Nat.{ℕ, zero, suc}
+use mathlib.Core.Bool.{true}
+use mathlib.Core.List.{List, [], _∷_, _++_}
+use mathlib.Core.Path.{_≡_}
+use lib.ListN.{replicate}
+use Rattle.machine.specs.Machine.{Event, Events, received, slot, measured, run, sent, start}
+use Rattle.machine.specs.Promised.{Promised}
+use Rattle.refusal.specs.declared.Verdict.the-variants.{Done}
+use Rattle.fixed.specs.declared.Settings.{Settings}
+use Rattle.units.specs.declared.Measurement.{Measurement}
+use Rattle.line.specs.declared.Line.{Line}
+use Rattle.line.specs.Line.{blank}
+use Rattle.rules.specs.Lens.{lens}
+use Rattle.port.specs.declared.Port.{Port}
+use Rattle.port.specs.declared.Sent.{Sent}
+use Rattle.port.specs.declared.Sent.the-variants as sent
+use Rattle.port.specs.Port.{slotOf, receiveOf, measureOf, started, startOf}
+use Rattle.fill.specs.Fill.{runOf, fillOf}
+use Rattle.walk.specs.View.{view, bytesOf}
+
+-- a call of the driver's
+pub data Call : Type 0 where
+  receive : ℕ → Call
+  slots-once : Call
+  measure : Measurement → Call
+  fill : ℕ → Call
+
+-- what the driver keeps: the port and the line
+pub record Held : Type 0 where
+  pub port : Port
+  pub line : Line
+
+abbrev pub after : Held → Call → Held
+after h (receive b) = record { port = receiveOf (h .port) (h .line) b .port; line = receiveOf (h .port) (h .line) b .line }
+after h slots-once = record { port = slotOf (h .port) .port; line = h .line }
+after h (measure m) = record { port = measureOf (h .port) m .port; line = h .line }
+after h (fill n) = record { port = fillOf (h .port) n .port; line = h .line }
+
+-- the bytes that a call hands to the line
+abbrev pub bytes : Held → Call → List ℕ
+bytes h (receive b) = []
+bytes h slots-once = bytesOf (slotOf (h .port) .sent)
+bytes h (measure m) = []
+bytes h (fill n) = runOf n (h .port) .bytes
+
+-- how many slots a fill runs: one for each byte, and the idle one, if it ended so
+abbrev pub ranBy : Sent → ℕ → ℕ
+ranBy (sent.Byte b) n = suc n
+ranBy sent.Idle n = 1
+ranBy (sent.Refused r) n = 1
+
+unfoldable pub ran : ℕ → Port → ℕ
+ran zero p = 0
+ran (suc n) p = ranBy (slotOf p .sent) (ran n (slotOf p .port))
+
+-- the machine's events of a call
+abbrev pub eventsOf : Held → Call → Events lens
+eventsOf h (receive b) = received b ∷ []
+eventsOf h slots-once = slot ∷ []
+eventsOf h (measure m) = measured m ∷ []
+eventsOf h (fill n) = replicate (ran n (h .port)) slot
+
+-- and of a list of calls: the state after them, their bytes, their events, end to end
+unfoldable pub afterAll : Held → List Call → Held
+afterAll h [] = h
+afterAll h (c ∷ cs) = afterAll (after h c) cs
+
+unfoldable pub bytesAll : Held → List Call → List ℕ
+bytesAll h [] = []
+bytesAll h (c ∷ cs) = bytes h c ++ bytesAll (after h c) cs
+
+unfoldable pub eventsAll : Held → List Call → Events lens
+eventsAll h [] = []
+eventsAll h (c ∷ cs) = eventsOf h c ++ eventsAll (after h c) cs
+
+-- what a start hands the driver
+abbrev pub begun : Port → Settings → Measurement → Held
+begun old s m = record { port = startOf old s m .port; line = blank }
+
+pub record OfThePort : Type 0 where
+  -- the states of the port, call by call, are those of the machine from its start
+  pub states : (old : Port) (s : Settings) (m : Measurement) (cs : List Call) → startOf old s m .verdict ≡ Done →
+      let h = begun old s m in
+      view (afterAll h cs .port) (afterAll h cs .line) ≡ run (start lens (started s m .source)) (eventsAll h cs)
+  -- and the bytes sent are the machine's
+  pub sends : (old : Port) (s : Settings) (m : Measurement) (cs : List Call) → startOf old s m .verdict ≡ Done →
+      let h = begun old s m in
+      bytesAll h cs ≡ sent (start lens (started s m .source)) (eventsAll h cs)
+  -- of which demand 3 is proved
+  pub demand3 : (old : Port) (s : Settings) (m : Measurement) → startOf old s m .verdict ≡ Done → Promised lens 156 233 79 (started s m .source)

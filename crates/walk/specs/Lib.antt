@@ -1,0 +1,3 @@
+pub mod View
+pub mod Walk
+pub mod Calls
