@@ -1,23 +1,26 @@
 // The session program of document 01: standard input is the received bytes. After the start and after
-// each byte it runs slots until idle, at most 400, and prints the bytes sent.
+// each byte it runs slots until idle, at most 400, and prints the bytes sent. An argument gives another
+// start-up letter than I.
 use fixed::Fixed;
 use fixed::Settings;
+use libc::STDERR_FILENO;
 use libc::STDIN_FILENO;
 use libc::STDOUT_FILENO;
 use line::Line;
 use port::Port;
 use record::Figures;
+use refusal::Verdict;
 use units::Measurement;
 
-// 4050.0093, BENCH, P, 50, 50, I, 95, 4.34; names of spaces, blur circles of 250.
-fn settings() -> Settings {
+// 4050.0093, BENCH, P, 50, 50, the letter, 95, 4.34; names of spaces, blur circles of 250.
+fn settings(letter: u8) -> Settings {
     let fixed = Fixed {
         serial: *b"4050.0093",
         owner: *b"BENCH                          ",
         kind: b'P',
         focal: 50,
         maximum: 50,
-        letter: b'I',
+        letter,
         transmission: 95,
         version: *b"4.34",
     };
@@ -102,8 +105,26 @@ fn run(desk: Desk) {
     }
 }
 
+// The start-up letter: the argument's first byte, or I.
+fn start_letter() -> u8 {
+    let mut word = io::buffer();
+    let n = os::arg(1, &mut word);
+    if os::errno() != 0 {
+        return b'I';
+    }
+    if n == 0 {
+        return b'I';
+    }
+    word[0]
+}
+
 fn main() {
-    let handed = Port::start(Port::unstarted(), settings(), measurement());
+    let handed = Port::start(Port::unstarted(), settings(start_letter()), measurement());
+    let verdict = handed.verdict;
+    if let Verdict::Refused(_) = verdict {
+        io::write_all(STDERR_FILENO, b"session: the start-up letter is none of I, M, B, b\n");
+        return;
+    }
     let port = drained(handed.port);
     run(Desk {
         port,
