@@ -122,7 +122,10 @@ fn main() {
     let handed = Port::start(Port::unstarted(), settings(start_letter()), measurement());
     let verdict = handed.verdict;
     if let Verdict::Refused(_) = verdict {
-        io::write_all(STDERR_FILENO, b"session: the start-up letter is none of I, M, B, b\n");
+        io::write_all(
+            STDERR_FILENO,
+            b"session: the start-up letter is none of I, M, B, b\n",
+        );
         return;
     }
     let port = drained(handed.port);
