@@ -3,7 +3,8 @@ use Prim.Native.Nat.{ℕ, zero, suc, _+_, _-_, _<_, _≤_}
 use native.Mathlib.Nat.{zero-add}
 use native.Mathlib.Numerals.{add-one}
 use native.Mathlib.Omega.{arith}
-use mathlib.Core.Path.{_≡_, refl, sym, ap, _∙_}
+use mathlib.Core.Bool.{true}
+use mathlib.Core.Path.{_≡_, refl, sym, ap, subst, _∙_}
 use mathlib.Core.List.{List, [], _∷_, _++_, append-assoc, append-nil}
 use lib.ListN.{length, take, drop, set, length-set, take-append-drop}
 use lib.Seq.{take-suc-set, drop-set-lt, drop-drop, length-take-le, append-snoc}
@@ -16,23 +17,27 @@ use Rattle.port.specs.declared.Sent.{Sent}
 use Rattle.laws.specs.Over.{over}
 use Rattle.laws.proofs.OverLaws.{over-fits}
 use Rattle.port.specs.declared.Sent.the-variants.{Byte, Idle, Refused}
-use Rattle.port.specs.Port.{slotOf}
+use Rattle.port.specs.Port.{validPort, slotOf}
+use Rattle.port.specs.Promises.{KeptValid}
+use Rattle.port.proofs.Promises.{kept-valid}
 use Rattle.fill.specs.Fill.{Run, thenRun, runOf}
 
 -- xs before what a run sends
 abbrev pub ahead : List ℕ → Run → Run
 ahead xs r = record { port = r .port; bytes = xs ++ r .bytes }
 
--- what holds at the loop's head: the run from p is what is written, and then the run from q
+-- what holds at the loop's head: q is valid, and the run from p is what is written, and then the run from q
 pub record At (l₀ : List ℕ) (p : Port) (l : List ℕ) (q : Port) (i : ℕ) : Type 0 where
+  pub valid : validPort q ≡ true
   pub within : i ≤ length l₀
   pub long : length l ≡ length l₀
   pub kept : drop i l ≡ drop i l₀
   pub run : runOf (length l₀) p ≡ ahead (take i l) (runOf (length l₀ - i) q)
 
-pub begins : (l₀ : List ℕ) (p : Port) → At l₀ p l₀ p 0
-begins l₀ p =
+pub begins : (l₀ : List ℕ) (p : Port) → validPort p ≡ true → At l₀ p l₀ p 0
+begins l₀ p v =
     record {
+      valid = v;
       within = omega arith;
       long = refl;
       kept = refl;
@@ -99,6 +104,7 @@ module _ {l₀ : List ℕ} {p : Port} {l : List ℕ} {q : Port} {i : ℕ} (a : A
         let r : Run = runOf (length l₀ - (i + 1)) (s .port) in
         let t : take (i + 1) (set l i b) ≡ take i l ++ (b ∷ []) = rw add-one (take-suc-set l i b h) in
         record {
+          valid = subst (λ (t : Slotted). validPort (t .port) ≡ true) (sym e) (kept-valid .slot q (a .valid));
           within = omega arith;
           long = length-set l i b ∙ m;
           kept = drop-set-lt (i + 1) l i b (omega arith) ∙ sym (drop-drop 1 i l) ∙ ap (drop 1) (a .kept) ∙ drop-drop 1 i l₀;

@@ -28,7 +28,7 @@ pub fn fill(port: Port, out: &mut [u8]) -> Filled
     let mut q = port;
     let mut i = 0;
     while i < out.len() {
-        let s = q.slot();
+        let s = port::advance(q);
         let sent = s.sent;
         q = s.port;
         match sent {

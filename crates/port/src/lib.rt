@@ -196,6 +196,19 @@ fn choose(p: Port) -> Slotted
     rest(p)
 }
 
+// A slot of a valid port: the message under way sends its next byte, else rules 1 to 4.
+pub fn advance(p: Port) -> Slotted
+    requires { ⌜ validPort p ≡ true ⌝ }
+    ensures { λ r. ⌜ r ≡ slotOf p ⌝ }
+{
+    let message = p.message;
+    let at = message.at;
+    if at < message.len {
+        return send_from(p, at);
+    }
+    choose(p)
+}
+
 // A carriage return: the line is taken where no command waits, else dropped.
 fn taken(p: Port, line: Line) -> Received
     ensures { λ r. ⌜ r ≡ takenOf p line ⌝ }
@@ -391,12 +404,7 @@ impl Port {
                 port: self,
             };
         }
-        let message = self.message;
-        let at = message.at;
-        if at < message.len {
-            return send_from(self, at);
-        }
-        choose(self)
+        advance(self)
     }
 
     // A new measurement: 16, then 1 with the lowest field.

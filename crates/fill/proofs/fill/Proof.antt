@@ -49,10 +49,10 @@ valid c = sym (c .before .is-valid .ensures) ∙ not-false _ (c .if1 .left)
 loop-holds : tie.Need-loop-holds Inv-loop μ-loop
 loop-holds c =
     let a = c .before .before .before .args in
-    begins (now (a .out)) (a .port)
+    begins (now (a .out)) (a .port) (valid c)
 
-slot-requires : tie.Need-slot-requires Inv-loop μ-loop
-slot-requires c κs = search needs
+advance-requires : tie.Need-advance-requires Inv-loop μ-loop
+advance-requires c κs = c .before .loop .inv .valid
 
 enum-known-sent : tie.Need-enum-known-sent Inv-loop μ-loop
 enum-known-sent c = search needs
@@ -71,7 +71,7 @@ loop-again c =
     let g = c .before in
     let s = g .before .before .before in
     let t = s .before in
-    turn (t .before .loop .inv) (t .loop-test .taken) (s .slot .result) (s .slot .ensures) (g .sent .given .0 .0) (g .sent .given .1)
+    turn (t .before .loop .inv) (t .loop-test .taken) (s .advance .result) (s .advance .ensures) (g .sent .given .0 .0) (g .sent .given .1)
 
 same-length : tie.Need-same-length Inv-loop μ-loop
 same-length c = c .before .before .before .before .loop .inv .long
@@ -81,7 +81,7 @@ returns-2 c =
     let s = c .before .before in
     let t = s .before in
     let l = t .before in
-    done (valid (l .before)) (stops (l .loop .inv) (t .loop-test .taken) (s .slot .result) (s .slot .ensures) (c .match .keys2))
+    done (valid (l .before)) (stops (l .loop .inv) (t .loop-test .taken) (s .advance .result) (s .advance .ensures) (c .match .keys2))
 
 same-length-2 : tie.Need-same-length-2 Inv-loop μ-loop
 same-length-2 c = c .before .loop .inv .long
@@ -98,7 +98,7 @@ fill-spec =
     is-valid-requires
     returns
     loop-holds
-    slot-requires
+    advance-requires
     enum-known-sent
     slice-write-out
     add-i
