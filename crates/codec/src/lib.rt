@@ -7,21 +7,18 @@ ghost use Rattle.laws.specs.Over.{over};
 ghost use Rattle.digits.specs.Digits.{decimal};
 ghost use Rattle.codec.specs.Codec.{printable, readTagged};
 
-// Whether every byte may stand in a text.
+// Whether every byte may stand in a text. To look at each costs less than to stop at the first that may not.
 pub fn is_text(s: &[u8]) -> bool
     ensures { λ r. ⌜ r ≡ printable (now (s .entry)) ⌝ }
 {
+    let mut all = true;
     let mut i = 0;
     while i < s.len() {
-        if s[i] < 32 {
-            return false;
-        }
-        if 126 < s[i] {
-            return false;
-        }
+        let byte = s[i];
+        all = all & ((32 <= byte) & (byte <= 126));
         i += 1;
     }
-    true
+    all
 }
 
 // Writes a tag and the decimal digits behind it.

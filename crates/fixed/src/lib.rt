@@ -107,14 +107,13 @@ fn is_item(s: &[u8], long: usize) -> bool
 fn is_blur(s: &[u16]) -> bool
     ensures { λ r. ⌜ r ≡ blurOk (now (s .entry)) ⌝ }
 {
+    let mut all = true;
     let mut i = 0;
     while i < s.len() {
-        if 999 < s[i] {
-            return false;
-        }
+        all = all & (s[i] <= 999);
         i += 1;
     }
-    true
+    all
 }
 
 // The lowest of items 3 to 7 that is out of range, or 0.

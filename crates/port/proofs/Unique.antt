@@ -27,5 +27,8 @@ one-receive p l b = one-answer
 pub one-slot : (p : Port) {r r′ : Slotted} → r ≡ slotOf p → r′ ≡ slotOf p → r ≡ r′
 one-slot p = one-answer
 
+pub one-advance : (p : Port) {r r′ : Slotted} → r ≡ slotOf p → r′ ≡ slotOf p → r ≡ r′
+one-advance p = one-answer
+
 pub one-measure : (p : Port) (m : Measurement) {r r′ : Handed} → r ≡ measureOf p m → r′ ≡ measureOf p m → r ≡ r′
 one-measure p m = one-answer

@@ -3,6 +3,7 @@ use Prim.Native.Nat.{ℕ}
 use mathlib.Core.Bool.{true, false, cond}
 use mathlib.Core.List.{List, [], _∷_}
 use mathlib.Core.Path.{_≡_}
+use lib.Dec.{leb}
 use Rattle.machine.specs.Machine.{Rules}
 use Rattle.units.specs.declared.Measurement.{Measurement}
 use Rattle.units.specs.Measurement.{measurementVerdict}
@@ -54,4 +55,4 @@ abbrev pub longestRecord : ℕ
 longestRecord = 78
 
 abbrev pub longestMessage : ℕ
-longestMessage = 78
+longestMessage = cond (leb longestReply longestRecord) longestRecord longestReply

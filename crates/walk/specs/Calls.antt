@@ -13,6 +13,7 @@ use Rattle.units.specs.declared.Measurement.{Measurement}
 use Rattle.line.specs.declared.Line.{Line}
 use Rattle.line.specs.Line.{blank}
 use Rattle.rules.specs.Lens.{lens}
+use Rattle.rules.specs.Promise.{actBy, replyBy, recordBy}
 use Rattle.port.specs.declared.Port.{Port}
 use Rattle.port.specs.declared.Sent.{Sent}
 use Rattle.port.specs.declared.Sent.the-variants as sent
@@ -88,5 +89,5 @@ pub record OfThePort : Type 0 where
   pub sends : (old : Port) (s : Settings) (m : Measurement) (cs : List Call) → startOf old s m .verdict ≡ Done →
       let h = begun old s m in
       bytesAll h cs ≡ sent (start lens (started s m .source)) (eventsAll h cs)
-  -- of which demand 3 is proved
-  pub demand3 : (old : Port) (s : Settings) (m : Measurement) → startOf old s m .verdict ≡ Done → Promised lens 156 233 79 (started s m .source)
+  -- of which demand 3 is proved: 156, 233 and 79
+  pub demand3 : (old : Port) (s : Settings) (m : Measurement) → startOf old s m .verdict ≡ Done → Promised lens actBy replyBy recordBy (started s m .source)
