@@ -1,7 +1,9 @@
 -- "slots run until it is full or one is idle, and the number of bytes written comes back equal to the sending slots run; bytes past it stay."
-use Prim.Native.Nat.{ℕ, zero, suc}
-use mathlib.Core.Bool.{cond}
-use mathlib.Core.List.{List, [], _∷_}
+use Prim.Native.Nat.{ℕ, zero, suc, _+_, _≤_}
+use mathlib.Core.Bool.{true, cond}
+use mathlib.Core.List.{List, [], _∷_, _++_}
+use mathlib.Core.Path.{_≡_}
+use lib.Dec.{ltb}
 use lib.ListN.{length}
 use Rattle.laws.specs.Over.{over}
 use Rattle.refusal.specs.declared.Refusal.the-variants as refusal
@@ -10,6 +12,7 @@ use Rattle.port.specs.declared.Port.{Port}
 use Rattle.port.specs.declared.Sent.{Sent}
 use Rattle.port.specs.declared.Sent.the-variants as sent
 use Rattle.port.specs.Port.{validPort, slotOf}
+use Rattle.fill.specs.declared.Onward.{Onward}
 use Rattle.fill.specs.declared.Filled.{Filled}
 
 -- what a run of slots sends, and the port after it
@@ -27,6 +30,26 @@ thenRun (sent.Refused x) q r = record { port = q; bytes = [] }
 unfoldable pub runOf : ℕ → Port → Run
 runOf zero p = record { port = p; bytes = [] }
 runOf (suc n) p = thenRun (slotOf p .sent) (slotOf p .port) (runOf n (slotOf p .port))
+
+abbrev pub leastOf : ℕ → ℕ → ℕ
+leastOf a b = cond (ltb a b) a b
+
+-- bytes before what a run sends
+abbrev pub ahead : List ℕ → Run → Run
+ahead xs r = record { port = r .port; bytes = xs ++ r .bytes }
+
+-- n slots from p send these bytes, one each, and leave q: so a run from p is these, and then a run from q
+pub record Sends (p : Port) (n : ℕ) (xs : List ℕ) (q : Port) : Type 0 where
+  pub long : length xs ≡ n
+  pub valid : validPort q ≡ true
+  pub run : (m : ℕ) → runOf (n + m) p ≡ ahead xs (runOf m q)
+
+-- slots from p, as many as r counts, have written what they send from a place on
+pub record Goes (p : Port) (out : List ℕ) (from : ℕ) (r : Onward) (after : List ℕ) : Type 0 where
+  pub sent : List ℕ
+  pub sends : Sends p (r .count) sent (r .port)
+  pub fits : from + r .count ≤ length out
+  pub leaves : after ≡ over out from sent
 
 -- 16 before all; the count is the sending slots of the run
 unfoldable pub fillOf : Port → ℕ → Filled

@@ -10,7 +10,7 @@ use Rattle.port.specs.declared.Port.{Port}
 use Rattle.port.specs.declared.Slotted.{Slotted}
 use Rattle.port.specs.declared.Received.{Received}
 use Rattle.port.specs.declared.Handed.{Handed}
-use Rattle.port.specs.Port.{validPort, slotOf, receiveOf, measureOf, startOf, unstarted}
+use Rattle.port.specs.Port.{validPort, sentUpTo, slotOf, receiveOf, measureOf, startOf, unstarted}
 
 pub one-unstarted : {p p′ : Port} → p ≡ unstarted → p′ ≡ unstarted → p ≡ p′
 one-unstarted = one-answer
@@ -29,6 +29,9 @@ one-slot p = one-answer
 
 pub one-advance : (p : Port) {r r′ : Slotted} → r ≡ slotOf p → r′ ≡ slotOf p → r ≡ r′
 one-advance p = one-answer
+
+pub one-sent-up-to : (p : Port) (at : ℕ) {r r′ : Port} → r ≡ sentUpTo p at → r′ ≡ sentUpTo p at → r ≡ r′
+one-sent-up-to p at = one-answer
 
 pub one-measure : (p : Port) (m : Measurement) {r r′ : Handed} → r ≡ measureOf p m → r′ ≡ measureOf p m → r ≡ r′
 one-measure p m = one-answer

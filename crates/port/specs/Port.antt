@@ -37,23 +37,22 @@ validPort p = validSource (p .source) && (validMessage (p .message) && validLine
 
 -- ---- a slot
 
--- the byte at a place leaves; the last byte of a message moves the rate
-abbrev pub sentTo : Message → ℕ → Message
-sentTo m at = record { bytes = m .bytes; len = m .len; at = at + 1 }
-
+-- the last byte of a message moves the rate
 unfoldable pub movedIf : Bool → Source → Source
 movedIf ended s = cond ended (withModes s (rateMoved (s .modes))) s
 
-unfoldable pub sendFrom : Port → ℕ → Slotted
-sendFrom p at = record {
-  sent = sent.Byte (getD (p .message .bytes) at 0);
-  port = record {
-    source = movedIf (eqb (at + 1) (p .message .len)) (p .source);
-    message = sentTo (p .message) at;
-    last = p .last;
-    waiting = p .waiting;
-  };
+-- the message under way has been sent up to a place
+abbrev pub sentUpTo : Port → ℕ → Port
+sentUpTo p at = record {
+  source = movedIf (eqb at (p .message .len)) (p .source);
+  message = record { bytes = p .message .bytes; len = p .message .len; at = at };
+  last = p .last;
+  waiting = p .waiting;
 }
+
+-- the byte at a place leaves
+unfoldable pub sendFrom : Port → ℕ → Slotted
+sendFrom p at = record { sent = sent.Byte (getD (p .message .bytes) at 0); port = sentUpTo p (at + 1) }
 
 -- a message starts: its first byte leaves
 unfoldable pub begunWith : Source → Message → Last → Waiting → Slotted

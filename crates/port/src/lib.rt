@@ -18,7 +18,7 @@ ghost use mathlib.Core.Bool.{true};
 ghost use Prim.Native.Nat.{_<_};
 ghost use Rattle.state.specs.State.{messageOf, validSource};
 ghost use Rattle.rules.specs.Lens.{greeting};
-ghost use Rattle.port.specs.Port.{validPort, movedIf, sendFrom, begunWith, beginsRecord, restOf, actOf, chooseOf, slotOf, takenOf, receiveOf, handed, measureOf, unitOf, started, unstarted, startOf, nobody, isReply, replyLast};
+ghost use Rattle.port.specs.Port.{validPort, movedIf, sentUpTo, sendFrom, begunWith, beginsRecord, restOf, actOf, chooseOf, slotOf, takenOf, receiveOf, handed, measureOf, unitOf, started, unstarted, startOf, nobody, isReply, replyLast};
 
 pub struct Port {
     pub source: Source,
@@ -51,7 +51,7 @@ pub struct Handed {
     pub port: Port,
 }
 
-// The source once the byte at a place has left: the last byte of a message moves the rate.
+// The last byte of a message moves the rate.
 fn moved(s: Source, ended: bool) -> Source
     ensures { λ r. ⌜ r ≡ movedIf ended s ⌝ }
 {
@@ -65,22 +65,30 @@ fn moved(s: Source, ended: bool) -> Source
     s
 }
 
+// The port once its message has been sent up to a place.
+pub fn sent_up_to(p: Port, at: usize) -> Port
+    ensures { λ r. ⌜ r ≡ sentUpTo p at ⌝ }
+{
+    let mut message = p.message;
+    message.at = at;
+    let source = moved(p.source, at == message.len);
+    let mut after = p;
+    after.source = source;
+    after.message = message;
+    after
+}
+
 // The byte at a place leaves.
 fn send_from(p: Port, at: usize) -> Slotted
     requires { ⌜ at < 128 ⌝ }
     ensures { λ r. ⌜ r ≡ sendFrom p at ⌝ }
 {
-    let mut message = p.message;
+    let message = p.message;
     let bytes = message.bytes;
     let byte = bytes[at];
-    message.at = at + 1;
-    let source = moved(p.source, at + 1 == message.len);
-    let mut after = p;
-    after.source = source;
-    after.message = message;
     Slotted {
         sent: Sent::Byte(byte),
-        port: after,
+        port: sent_up_to(p, at + 1),
     }
 }
 

@@ -1,12 +1,12 @@
--- `fill::fill` meets its contract: before each turn the run from the handed-in port is what is written, and then the run from q. Assumes nothing.
-use Prim.Native.Nat.{ℕ, _-_}
+-- `fill::fill` meets its contract: before each turn i slots have been run, and what they sent is written. Assumes nothing.
+use Prim.Native.Nat.{ℕ, _+_, _-_, _≤_}
 use mathlib.Core.Bool.{true, false}
 use mathlib.Core.List.{List}
-use mathlib.Core.Path.{_≡_, refl, sym, _∙_}
+use mathlib.Core.Path.{_≡_, refl, sym, subst, _∙_}
 use native.Mathlib.Omega.{arith}
 use borrow.Author.Needs.{needs}
 use borrow.Author.Tests.{not-true, not-false}
-use lib.ListN.{length, length-set}
+use lib.ListN.{length, set, length-set}
 use denote.Ref.{now}
 use Rattle.laws.specs.Gives.{Gives}
 use Rattle.laws.proofs.Tests.{yes, no}
@@ -15,7 +15,7 @@ use Rattle.port.specs.declared.Port.{Port}
 use Rattle.port.specs.Port.{validPort}
 use Rattle.fill.specs.declared.Filled.{Filled}
 use Rattle.fill.specs.Fill.{fillOf, fillLeaves}
-use Rattle.fill.proofs.Laws.{At, Ends, begins, turn, stops, full}
+use Rattle.fill.proofs.Laws.{At, Ends, one-sends, begins, as-long, less, onward, stored, stops, full}
 use Rattle.fill.proofs.fill.Statement.{statement}
 use Rattle.fill.proofs.fill.Tie as tie
 
@@ -52,7 +52,7 @@ loop-holds c =
     begins (now (a .out)) (a .port) (valid c)
 
 advance-requires : tie.Need-advance-requires Inv-loop μ-loop
-advance-requires c κs = c .before .loop .inv .valid
+advance-requires c κs = c .before .loop .inv .sends .valid
 
 enum-known-sent : tie.Need-enum-known-sent Inv-loop μ-loop
 enum-known-sent c = search needs
@@ -60,21 +60,57 @@ enum-known-sent c = search needs
 slice-write-out : tie.Need-slice-write-out Inv-loop μ-loop
 slice-write-out c = search needs
 
-add-i : tie.Need-add-i Inv-loop μ-loop
-add-i c = search needs
-
-loop-less : tie.Need-loop-less Inv-loop μ-loop
-loop-less c = simp length-set (omega arith)
-
-loop-again : tie.Need-loop-again Inv-loop μ-loop
-loop-again c =
-    let g = c .before in
+-- once a byte has been stored
+after-byte : (c : tie.After-go-on-arg Inv-loop μ-loop) →
+    let g = c .before .before in
+    let s = g .before .before .before in
+    let l = s .before .before in
+    let a = l .before .before .before .before .args in
+    At (now (a .out)) (a .port) (set (l .loop .out) (l .loop .i) (g .sent .given .0 .0)) (s .advance .result .port) (l .loop .i + 1)
+after-byte c =
+    let g = c .before .before in
     let s = g .before .before .before in
     let t = s .before in
-    turn (t .before .loop .inv) (t .loop-test .taken) (s .advance .result) (s .advance .ensures) (g .sent .given .0 .0) (g .sent .given .1)
+    let v = t .before .loop .inv in
+    stored v (one-sends _ (s .advance .result) (g .sent .given .0 .0) (v .sends .valid) (s .advance .ensures) (g .sent .given .1)) (t .loop-test .taken)
+
+add-go-on : tie.Need-add-go-on Inv-loop μ-loop
+add-go-on c = search needs
+
+go-on-requires : tie.Need-go-on-requires Inv-loop μ-loop
+go-on-requires c κs =
+    let b = after-byte c in
+    (b .sends .valid, omega (arith, b .within, as-long b))
+
+-- once the rest of the message has been written
+after-rest : (c : tie.After-go-on Inv-loop μ-loop) →
+    let s = c .before .before .before .before .before .before in
+    let l = s .before .before in
+    let a = l .before .before .before .before .args in
+    At (now (a .out)) (a .port) (c .go-on .last .1 .0) (c .go-on .result .port) (l .loop .i + 1 + c .go-on .result .count)
+after-rest c = onward (after-byte (c .before)) (c .go-on .ensures)
+
+add-i : tie.Need-add-i Inv-loop μ-loop
+add-i c =
+    record { fits = add-go-on (c .before .before .before .before) .fits }
+
+add-i-2 : tie.Need-add-i-2 Inv-loop μ-loop
+add-i-2 c =
+    let r = after-rest (c .before .before .before .before) in
+    let s = c .before .before .before .before .before .before .before .before .before .before .before .before .before .before .before .before in
+    omega (arith, r .within, s .good .1 .0)
+
+loop-less : tie.Need-loop-less Inv-loop μ-loop
+loop-less c =
+    let g = c .before .before .before .before in
+    let l = g .before .before .before .before .before .before .before .before in
+    less (l .loop .inv) (after-rest g) (omega arith)
+
+loop-again : tie.Need-loop-again Inv-loop μ-loop
+loop-again c = after-rest (c .before .before .before .before)
 
 same-length : tie.Need-same-length Inv-loop μ-loop
-same-length c = c .before .before .before .before .loop .inv .long
+same-length c = as-long (c .before .before .before .before .loop .inv)
 
 returns-2 : tie.Need-returns-2 Inv-loop μ-loop
 returns-2 c =
@@ -84,7 +120,7 @@ returns-2 c =
     done (valid (l .before)) (stops (l .loop .inv) (t .loop-test .taken) (s .advance .result) (s .advance .ensures) (c .match .keys2))
 
 same-length-2 : tie.Need-same-length-2 Inv-loop μ-loop
-same-length-2 c = c .before .loop .inv .long
+same-length-2 c = as-long (c .before .loop .inv)
 
 returns-3 : tie.Need-returns-3 Inv-loop μ-loop
 returns-3 c = done (valid (c .before .before)) (full (c .before .loop .inv) (c .loop-test .left))
@@ -101,7 +137,10 @@ fill-spec =
     advance-requires
     enum-known-sent
     slice-write-out
+    add-go-on
+    go-on-requires
     add-i
+    add-i-2
     loop-less
     loop-again
     same-length

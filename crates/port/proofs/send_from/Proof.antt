@@ -1,10 +1,9 @@
 -- `port::send_from` meets its contract. Assumes nothing.
-use mathlib.Core.Path.{_≡_, refl, ap}
+use mathlib.Core.Path.{_≡_, ap}
 use lib.ListN.{getD}
-use Rattle.state.specs.declared.Source.{Source}
-use Rattle.port.specs.declared.Slotted.{Slotted}
+use Rattle.port.specs.declared.Port.{Port}
 use Rattle.port.specs.declared.Sent.the-variants as sent
-use Rattle.port.specs.Port.{sentTo, sendFrom}
+use Rattle.port.specs.Port.{sendFrom}
 use borrow.Author.Needs.{needs}
 use Rattle.port.proofs.send_from.Statement.{statement}
 use Rattle.port.proofs.send_from.Tie as tie
@@ -12,25 +11,17 @@ use Rattle.port.proofs.send_from.Tie as tie
 array-read-byte : tie.Need-array-read-byte
 array-read-byte c = search needs
 
-add-message : tie.Need-add-message
-add-message c = search needs
+add-sent-up-to : tie.Need-add-sent-up-to
+add-sent-up-to c = search needs
 
-add-moved : tie.Need-add-moved
-add-moved c = search needs
-
-moved-requires : tie.Need-moved-requires
-moved-requires c κs = search needs
+sent-up-to-requires : tie.Need-sent-up-to-requires
+sent-up-to-requires c κs = search needs
 
 returns : tie.Need-returns
 unfolding sendFrom
 returns c =
-    let a = c .before .before .before .before .args in
-    ap
-    (λ (s : Source). record {
-      sent = sent.Byte (getD (a .p .message .bytes) (a .at) 0);
-      port = record { source = s; message = sentTo (a .p .message) (a .at); last = a .p .last; waiting = a .p .waiting };
-    })
-    (c .moved .ensures)
+    let a = c .before .before .before .args in
+    ap (λ (q : Port). record { sent = sent.Byte (getD (a .p .message .bytes) (a .at) 0); port = q }) (c .sent-up-to .ensures)
 
 pub send-from-spec : {M : Type 1} → statement M
-send-from-spec = tie.close (tie.spec array-read-byte add-message add-moved moved-requires returns)
+send-from-spec = tie.close (tie.spec array-read-byte add-sent-up-to sent-up-to-requires returns)
