@@ -3,12 +3,10 @@ use Prim.Native.Nat.{ℕ}
 use mathlib.Core.Bool.{false}
 use mathlib.Core.List.{[], _∷_, _++_}
 use mathlib.Core.Path.{_≡_}
-use lib.IntN.{pos}
 use lib.ListN.{length, replicate}
 use Rattle.machine.specs.Machine.{a-record, a-reply, received, slot, Events, State, modes, underway, last, took, start, next, shows, run, actedIn, acted}
 use Rattle.machine.specs.Promised.{Promised}
-use Rattle.fixed.specs.declared.Settings.{Settings}
-use Rattle.units.specs.declared.Measurement.{Measurement}
+use Rattle.bench_lens.specs.Bench.{benchSettings, benchMeasurement}
 use Rattle.line.specs.declared.Line.{Line}
 use Rattle.line.specs.Line.{blank, joined}
 use Rattle.state.specs.declared.State.the-variants.{Ready}
@@ -16,48 +14,10 @@ use Rattle.state.specs.declared.Sending.the-variants.{Off}
 use Rattle.state.specs.declared.Source.{Source}
 use Rattle.rules.specs.Lens.{lens, Good}
 
--- the settings of the session program: 4050.0093, BENCH, P, 50, 50, I, 95, 4.34, names of spaces, blur circles 250
-abbrev pub benchSettings : Settings
-benchSettings = record {
-  fixed = record {
-    serial = 0x34 ∷ 0x30 ∷ 0x35 ∷ 0x30 ∷ 0x2E ∷ 0x30 ∷ 0x30 ∷ 0x39 ∷ 0x33 ∷ [];
-    owner = 0x42 ∷ 0x45 ∷ 0x4E ∷ 0x43 ∷ 0x48 ∷ replicate 26 0x20;
-    kind = 0x50;
-    focal = 50;
-    maximum = 50;
-    letter = 0x49;
-    transmission = 95;
-    version = 0x34 ∷ 0x2E ∷ 0x33 ∷ 0x34 ∷ [];
-  };
-  maker = replicate 15 0x20;
-  «type_name» = replicate 30 0x20;
-  blur = replicate 32 250;
-}
-
--- record R, unit I, 21 degrees
-abbrev pub benchMeasurement : Measurement
-benchMeasurement = record {
-  unit = 0x49;
-  figures = record {
-    focus = 798;
-    aperture = 680;
-    stop = 56;
-    tenth = 5;
-    focal = 0;
-    hyperfocal = 6123;
-    near = 711;
-    far = 909;
-    view = 273;
-    pupil = pos 23;
-    zoom = 0;
-  };
-  temperature = pos 21;
-}
-
 -- ready, all modes off, film 00, rate number 6, imperial
 abbrev pub bench : Source
 bench = record {
-  settings = benchSettings;
+  settings = benchSettings 0x49;
   measurement = benchMeasurement;
   modes = record { state = Ready; sending = Off; checksum = false; inhibit = false; film = 0; unit = 0x49; rate = 6; «next_rate» = 6 };
 }
