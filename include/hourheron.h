@@ -1,0 +1,297 @@
+/* hourheron.h: the messages of a Cooke /i lens for a C host. C99 and C++11.
+ *
+ * Writers and readers of the text record (D), the packed record (Kd) and the fixed data (N), the
+ * conversion between 0.1 inch and 1 mm, and the checksum. They are proved in Rattle: each takes any
+ * input, and a reader accepts exactly the messages that its writer writes.
+ *
+ * Every function answers by value with a number: 0 for done, else a refusal (enum heron_refusal). A
+ * refusal writes to no memory of yours, and what does not come with an answer is 0. No function keeps
+ * anything between calls or allocates, so any thread may call any of them at any time.
+ *
+ * Memory is handed over as a pointer and a length in bytes. With length 0 the pointer may be null and
+ * nothing is read or written through it. With another length it must be valid for that many bytes, to
+ * read (const) or to write, until the call returns. The memory lent for output may not overlap any
+ * other argument. These duties are yours: they cannot be checked.
+ *
+ * `checksum` says whether checksum mode is on. Link with -lhourheron.
+ */
+#ifndef HOURHERON_H
+#define HOURHERON_H
+
+#include <stdbool.h>
+#include <stddef.h>
+#include <stdint.h>
+#include <string.h>
+
+#define HOURHERON_VERSION "0.1.0"
+
+/* ---- lengths in bytes */
+
+/* Of the messages with their LF CR, plain and in checksum mode. */
+#define HERON_TEXT_LEN 76
+#define HERON_TEXT_LEN_CHECKSUM 78
+#define HERON_PACKED_LEN 41
+#define HERON_PACKED_LEN_CHECKSUM 43
+#define HERON_FIXED_LEN 67
+#define HERON_FIXED_LEN_CHECKSUM 69
+
+/* Enough for any of them. */
+#define HERON_LONGEST 78
+
+/* Of a record and of fixed data as the readers hand them out. */
+#define HERON_RECORD_BYTES 53
+#define HERON_FIXED_BYTES 51
+
+/* Of the texts. */
+#define HERON_SERIAL_LEN 9
+#define HERON_OWNER_LEN 31
+#define HERON_VERSION_LEN 4
+
+/* ---- refusals */
+
+/* The numbers, with what is in `value` beside each. 7 and 16 are the port's: no function below answers them. */
+enum heron_refusal {
+    HERON_DONE = 0,     /* done: the count or what the function says */
+    HERON_FIELD = 1,    /* a field out of range: the lowest one; 0 for a unit letter, 13 for a temperature */
+    HERON_ROOM = 2,     /* lent output shorter than what goes in it: the needed length */
+    HERON_LENGTH = 3,   /* a read message of wrong length: its length */
+    HERON_END = 4,      /* the last two bytes are not LF CR */
+    HERON_CHECKSUM = 5, /* the checksum is wrong */
+    HERON_CONTENTS = 6, /* contents no writer writes: the first wrong field or item */
+    HERON_DROPPED = 7,  /* a line is dropped */
+    HERON_SETTING = 8,  /* a setting out of range: the lowest item */
+    HERON_STATE = 16    /* a handed-in state or collector that is not valid */
+};
+
+/* What a number says; any number has an answer. */
+static inline const char *heron_refusal_name(uint32_t number)
+{
+    switch (number) {
+    case HERON_DONE: return "done";
+    case HERON_FIELD: return "field out of range";
+    case HERON_ROOM: return "output too short";
+    case HERON_LENGTH: return "message of wrong length";
+    case HERON_END: return "last two bytes not LF CR";
+    case HERON_CHECKSUM: return "checksum wrong";
+    case HERON_CONTENTS: return "contents no writer writes";
+    case HERON_DROPPED: return "line dropped";
+    case HERON_SETTING: return "setting out of range";
+    case HERON_STATE: return "state not valid";
+    default: return "no refusal number";
+    }
+}
+
+/* ---- answers */
+
+/* number: 0 or the refusal. value: what comes with it. */
+typedef struct heron_answer {
+    uint32_t number;
+    uint64_t value;
+} heron_answer;
+
+/* number: 0 or 1. Refused: field. Done: value. */
+typedef struct heron_converted {
+    uint32_t number;
+    uint32_t field;
+    int32_t value;
+} heron_converted;
+
+/* ---- what the messages hold */
+
+/* A record. Distances and the pupil are in 0.1 inch or 1 mm, by the display unit, which a record does not say. */
+typedef struct heron_record {
+    uint32_t focus;      /*  1 focus distance, 0..9999999 */
+    uint32_t aperture;   /*  2 true aperture x100, 0..4095 */
+    uint32_t stop;       /*  3 ring stop x10, 0..99 or a multiple of 10 in 100..250 */
+    uint32_t tenth;      /*  4 tenth of a stop past it, 0..9 */
+    uint32_t focal;      /*  5 effective focal length in mm, 0..1023 */
+    uint32_t hyperfocal; /*  6 hyperfocal distance, 0..9999999 */
+    uint32_t near;       /*  7 near distance, 0..9999999 */
+    uint32_t far;        /*  8 far distance, 0..9999999 */
+    uint32_t view;       /*  9 field of view x10 in degrees, 0..4095 */
+    int32_t pupil;       /* 10 entrance pupil, -999..999 */
+    uint32_t zoom;       /* 11 normalised zoom x1000, 0..1000 */
+    uint8_t serial[HERON_SERIAL_LEN]; /* 12 bytes 20..7E hex, no terminating zero */
+} heron_record;
+
+/* Fixed data. Texts hold bytes 20..7E hex and have no terminating zero. */
+typedef struct heron_fixed {
+    uint8_t serial[HERON_SERIAL_LEN];   /* 1 */
+    uint8_t owner[HERON_OWNER_LEN];     /* 2 filled up with spaces */
+    uint8_t kind;                       /* 3 lens type, P (prime) or Z (zoom) */
+    uint32_t focal;                     /* 4 focal length in mm, 0..999 */
+    uint32_t maximum;                   /* 5 maximum focal length in mm, 0..999 */
+    uint8_t letter;                     /* 6 start-up letter, I, M, B or b */
+    uint32_t transmission;              /* 7 transmission factor, 0..99 */
+    uint8_t version[HERON_VERSION_LEN]; /* 8 */
+} heron_fixed;
+
+#ifdef __cplusplus
+extern "C" {
+#endif
+
+/* ---- records */
+
+/* Write a record, as text or packed, to the start of out; bytes past it stay as they were. Done: value is
+ * the count of bytes written. Refused, in this order:
+ *   1  a field out of range: the lowest; a serial of another length than 9 is field 12
+ *   2  out shorter than the message: the needed length */
+heron_answer heron_write_text(uint32_t focus, uint32_t aperture, uint32_t stop, uint32_t tenth, uint32_t focal,
+                              uint32_t hyperfocal, uint32_t near, uint32_t far, uint32_t view, int32_t pupil,
+                              uint32_t zoom, const uint8_t *serial, size_t serial_len, bool checksum,
+                              uint8_t *out, size_t out_len);
+heron_answer heron_write_packed(uint32_t focus, uint32_t aperture, uint32_t stop, uint32_t tenth, uint32_t focal,
+                                uint32_t hyperfocal, uint32_t near, uint32_t far, uint32_t view, int32_t pupil,
+                                uint32_t zoom, const uint8_t *serial, size_t serial_len, bool checksum,
+                                uint8_t *out, size_t out_len);
+
+/* Read a record's message, LF CR included, into HERON_RECORD_BYTES at the start of out; bytes past them stay
+ * as they were. heron_record_unpack makes a struct of them. Done: value is that count. Refused, in this order:
+ *   3  the message has another length: its length
+ *   4  its last two bytes are not LF CR
+ *   5  its checksum is wrong (checksum mode only)
+ *   6  contents no writer writes: the first wrong field, 1..12; a tag counts to the field after it
+ *   2  out shorter than HERON_RECORD_BYTES: that */
+heron_answer heron_read_text(const uint8_t *message, size_t len, bool checksum, uint8_t *out, size_t out_len);
+heron_answer heron_read_packed(const uint8_t *message, size_t len, bool checksum, uint8_t *out, size_t out_len);
+
+/* ---- fixed data */
+
+/* Writes an N message to the start of out; bytes past it stay as they were. Done: value is the count of bytes
+ * written. Refused, in this order:
+ *   8  an item out of range: the lowest, 1..8; so is a text of another length than its own
+ *   2  out shorter than the message: the needed length */
+heron_answer heron_write_fixed(const uint8_t *serial, size_t serial_len, const uint8_t *owner, size_t owner_len,
+                               uint8_t kind, uint32_t focal, uint32_t maximum, uint8_t letter, uint32_t transmission,
+                               const uint8_t *version, size_t version_len, bool checksum,
+                               uint8_t *out, size_t out_len);
+
+/* Reads an N message, LF CR included, into HERON_FIXED_BYTES at the start of out; bytes past them stay as they
+ * were. heron_fixed_unpack makes a struct of them. Done: value is that count. Refused as a record's reader:
+ * 3, 4, 5, 6 with the first wrong item 1..8, then 2 with HERON_FIXED_BYTES. */
+heron_answer heron_read_fixed(const uint8_t *message, size_t len, bool checksum, uint8_t *out, size_t out_len);
+
+/* The owner's name in an N message, without its trailing spaces: value is where it starts in the message and
+ * how long it is, which may be 0. Refused as heron_read_fixed: 3, 4, 5, 6. */
+heron_answer heron_owner_start(const uint8_t *message, size_t len, bool checksum);
+heron_answer heron_owner_len(const uint8_t *message, size_t len, bool checksum);
+
+/* ---- units and checksum */
+
+/* A number of a field (1, 6, 7, 8: a distance; 10: the pupil) in the wanted unit, I (0.1 inch) or M (1 mm): the
+ * nearest whole number, halves away from zero; with letters alike the number unchanged. Refused:
+ *   1  with 0: a letter that is neither
+ *   1  with the field asked for: it is none of the five, or the number is out of its own unit's range
+ *      (M: 0..9999999, pupil -999..999; I: 0..3937007, pupil -393..393) */
+heron_converted heron_convert(uint32_t field, int32_t number, uint8_t unit, uint8_t wanted);
+
+/* The checksum of some bytes: value is its first character * 256 + its second. Never refused. */
+heron_answer heron_checksum(const uint8_t *bytes, size_t len);
+
+#ifdef __cplusplus
+}
+#endif
+
+/* ---- the readers' bytes as structs */
+
+/* A number of two or four bytes, lowest first. */
+static inline uint32_t heron_u16_at(const uint8_t *bytes)
+{
+    return (uint32_t)bytes[0] | (uint32_t)bytes[1] << 8;
+}
+
+static inline uint32_t heron_u32_at(const uint8_t *bytes)
+{
+    return heron_u16_at(bytes) | heron_u16_at(bytes + 2) << 16;
+}
+
+/* A signed one, two's complement. */
+static inline int32_t heron_i32_at(const uint8_t *bytes)
+{
+    uint32_t bits = heron_u32_at(bytes);
+    return bits <= INT32_MAX ? (int32_t)bits : -(int32_t)(UINT32_MAX - bits) - 1;
+}
+
+/* The record in HERON_RECORD_BYTES: fields 1 to 11, four bytes each, then the serial. */
+static inline heron_record heron_record_unpack(const uint8_t *bytes)
+{
+    heron_record r;
+    r.focus = heron_u32_at(bytes);
+    r.aperture = heron_u32_at(bytes + 4);
+    r.stop = heron_u32_at(bytes + 8);
+    r.tenth = heron_u32_at(bytes + 12);
+    r.focal = heron_u32_at(bytes + 16);
+    r.hyperfocal = heron_u32_at(bytes + 20);
+    r.near = heron_u32_at(bytes + 24);
+    r.far = heron_u32_at(bytes + 28);
+    r.view = heron_u32_at(bytes + 32);
+    r.pupil = heron_i32_at(bytes + 36);
+    r.zoom = heron_u32_at(bytes + 40);
+    memcpy(r.serial, bytes + 44, HERON_SERIAL_LEN);
+    return r;
+}
+
+/* The fixed data in HERON_FIXED_BYTES: the items in order, focal lengths in two bytes. */
+static inline heron_fixed heron_fixed_unpack(const uint8_t *bytes)
+{
+    heron_fixed f;
+    memcpy(f.serial, bytes, HERON_SERIAL_LEN);
+    memcpy(f.owner, bytes + 9, HERON_OWNER_LEN);
+    f.kind = bytes[40];
+    f.focal = heron_u16_at(bytes + 41);
+    f.maximum = heron_u16_at(bytes + 43);
+    f.letter = bytes[45];
+    f.transmission = bytes[46];
+    memcpy(f.version, bytes + 47, HERON_VERSION_LEN);
+    return f;
+}
+
+/* ---- the same entries on structs: as above, but a reader lends its own output, so 2 does not occur */
+
+static inline heron_answer heron_record_to_text(const heron_record *r, bool checksum, uint8_t *out, size_t out_len)
+{
+    return heron_write_text(r->focus, r->aperture, r->stop, r->tenth, r->focal, r->hyperfocal, r->near, r->far,
+                            r->view, r->pupil, r->zoom, r->serial, HERON_SERIAL_LEN, checksum, out, out_len);
+}
+
+static inline heron_answer heron_record_to_packed(const heron_record *r, bool checksum, uint8_t *out, size_t out_len)
+{
+    return heron_write_packed(r->focus, r->aperture, r->stop, r->tenth, r->focal, r->hyperfocal, r->near, r->far,
+                              r->view, r->pupil, r->zoom, r->serial, HERON_SERIAL_LEN, checksum, out, out_len);
+}
+
+static inline heron_answer heron_fixed_to_message(const heron_fixed *f, bool checksum, uint8_t *out, size_t out_len)
+{
+    return heron_write_fixed(f->serial, HERON_SERIAL_LEN, f->owner, HERON_OWNER_LEN, f->kind, f->focal, f->maximum,
+                             f->letter, f->transmission, f->version, HERON_VERSION_LEN, checksum, out, out_len);
+}
+
+/* Refused, *r or *f stays as it was. */
+static inline heron_answer heron_record_from_text(const uint8_t *message, size_t len, bool checksum, heron_record *r)
+{
+    uint8_t bytes[HERON_RECORD_BYTES];
+    heron_answer a = heron_read_text(message, len, checksum, bytes, sizeof bytes);
+    if (a.number == HERON_DONE)
+        *r = heron_record_unpack(bytes);
+    return a;
+}
+
+static inline heron_answer heron_record_from_packed(const uint8_t *message, size_t len, bool checksum, heron_record *r)
+{
+    uint8_t bytes[HERON_RECORD_BYTES];
+    heron_answer a = heron_read_packed(message, len, checksum, bytes, sizeof bytes);
+    if (a.number == HERON_DONE)
+        *r = heron_record_unpack(bytes);
+    return a;
+}
+
+static inline heron_answer heron_fixed_from_message(const uint8_t *message, size_t len, bool checksum, heron_fixed *f)
+{
+    uint8_t bytes[HERON_FIXED_BYTES];
+    heron_answer a = heron_read_fixed(message, len, checksum, bytes, sizeof bytes);
+    if (a.number == HERON_DONE)
+        *f = heron_fixed_unpack(bytes);
+    return a;
+}
+
+#endif
