@@ -1,0 +1,81 @@
+/* What the parts of heron-bench share: exit statuses, forms, names, bytes. */
+#ifndef BENCH_H
+#define BENCH_H
+
+#include <hourheron.h>
+#include <stdio.h>
+
+/* Exit statuses. */
+enum { DONE = 0, REFUSED = 1, USAGE = 2 };
+
+/* The subcommands: argv[0] is the subcommand's name. Each returns an exit status. */
+int read_command(int argc, char **argv);
+int write_command(int argc, char **argv);
+int convert_command(int argc, char **argv);
+int checksum_command(int argc, char **argv);
+
+/* ---- names */
+
+/* NO_FORM: no form with a reader of its own. */
+typedef enum { TEXT, PACKED, FIXED, NO_FORM } form;
+
+/* A form: its name on the command line, in words, and how long its message is, plain and with a checksum. */
+typedef struct {
+    const char *key;
+    const char *words;
+    size_t length[2];
+} form_facts;
+
+extern const form_facts forms[NO_FORM];
+
+/* The form that a word of the command line names, or NO_FORM. */
+form form_called(const char *word);
+
+/* A field or an item: its name on the command line, and in words. */
+typedef struct {
+    const char *key;
+    const char *words;
+} name;
+
+/* By number: fields 0 (the unit letter) to 13 (the temperature), items 1 to 8. */
+enum { FIELDS = 14, ITEMS = 9 };
+extern const name fields[FIELDS];
+extern const name items[ITEMS];
+
+/* A line such as "refused 6, contents no writer writes: field 3, ring stop". */
+void print_refusal(FILE *to, form f, bool checksum, heron_answer refused);
+
+/* ---- bytes */
+
+typedef struct {
+    uint8_t *bytes;
+    size_t len;
+    size_t room;
+} buffer;
+
+void buffer_add(buffer *b, int byte);
+
+/* Adds the bytes that a text gives in hex, two digits a byte, spaces between bytes. Returns the place of the
+ * first character that does not fit, or -1. */
+long buffer_add_hex(buffer *b, const char *text, size_t len);
+
+void print_hex(const uint8_t *bytes, size_t len);
+
+/* In quotes; what is no printable character, a quote and a backslash as \xNN. */
+void print_quoted(const uint8_t *bytes, size_t len);
+
+/* ---- the command line */
+
+/* Whether a word is the option, in its short or its long spelling. */
+bool is_option(const char *word, const char *brief, const char *full);
+
+/* Says on standard error what is wrong with the command line; returns USAGE. */
+int usage_error(const char *command, const char *wrong, const char *word);
+
+bool parse_u32(const char *text, uint32_t *number);
+bool parse_i32(const char *text, int32_t *number);
+
+/* Flushes standard output: the status, or USAGE where what was printed could not be written. */
+int printed(int status);
+
+#endif
