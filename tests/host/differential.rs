@@ -6,9 +6,11 @@
 #[path = "reference/lens.rs"]
 mod lens;
 mod library;
+mod random;
 
 use lens::{Fixed, Record, Refusal};
 use library::Converted;
+use random::Random;
 use std::process::exit;
 
 const GUARD: usize = 16;
@@ -17,39 +19,6 @@ const LONGEST_ROOM: usize = 160;
 const MOST_REPORTS: u64 = 10;
 
 type Outcome = Result<usize, Refusal>;
-
-// ---- random numbers (splitmix64)
-
-struct Random(u64);
-
-impl Random {
-    fn next(&mut self) -> u64 {
-        self.0 = self.0.wrapping_add(0x9E37_79B9_7F4A_7C15);
-        let z = (self.0 ^ (self.0 >> 30)).wrapping_mul(0xBF58_476D_1CE4_E5B9);
-        let z = (z ^ (z >> 27)).wrapping_mul(0x94D0_49BB_1331_11EB);
-        z ^ (z >> 31)
-    }
-
-    fn below(&mut self, n: usize) -> usize {
-        (self.next() % n as u64) as usize
-    }
-
-    fn between(&mut self, low: i64, high: i64) -> i64 {
-        low + (self.next() % (high - low + 1) as u64) as i64
-    }
-
-    fn flag(&mut self) -> bool {
-        self.next() & 1 == 1
-    }
-
-    fn byte(&mut self) -> u8 {
-        self.next() as u8
-    }
-
-    fn pick<T: Copy>(&mut self, from: &[T]) -> T {
-        from[self.below(from.len())]
-    }
-}
 
 // ---- records and fixed data, in range and out of it
 
