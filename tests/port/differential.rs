@@ -52,9 +52,8 @@ struct Pace {
 }
 
 /// One of each kind of command; the digits are chosen anew.
-const COMMANDS: [&[u8]; 18] = [
-    b"B", b"C", b"D", b"G", b"H", b"Ka", b"Kb0", b"Kc", b"Kd", b"K3", b"K4", b"N", b"P", b"V", b"W", b"W00", b"X", b"Y",
-];
+const COMMANDS: [&[u8]; 18] =
+    [b"B", b"C", b"D", b"G", b"H", b"Ka", b"Kb0", b"Kc", b"Kd", b"K3", b"K4", b"N", b"P", b"V", b"W", b"W00", b"X", b"Y"];
 
 /// Lines that are nearly commands.
 const NEARLY: [&[u8]; 40] = [
@@ -426,7 +425,10 @@ fn main() {
     }
 
     let refused: u64 = tally.refused.iter().sum();
-    println!("{} bytes received ({} lines dropped), {} slots ({} idle)", tally.received, tally.dropped, tally.slots, tally.idle);
+    println!(
+        "{} bytes received ({} lines dropped), {} slots ({} idle)",
+        tally.received, tally.dropped, tally.slots, tally.idle
+    );
     println!("{} fills, {} measurements ({refused} refused: by field {:?})", tally.fills, tally.measured, tally.refused);
     let missing = tally.missing();
     for what in &missing {

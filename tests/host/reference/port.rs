@@ -446,9 +446,7 @@ impl Port {
             Command::TypeName => plain(&[b"K4", &self.settings.type_name]),
             Command::Fixed => self.fixed_data(),
             Command::Temperature => plain(&[b"P", &two_digits(self.measurement.temperature.clamp(0, 99) as u8)]),
-            Command::Film(letter, film) => {
-                plain(&[&[letter], b"0.0", &three_digits(self.settings.blur[usize::from(film)])])
-            }
+            Command::Film(letter, film) => plain(&[&[letter], b"0.0", &three_digits(self.settings.blur[usize::from(film)])]),
             Command::Unit(letter, ..) => plain(&[&[letter]]),
             Command::Unknown => plain(&[b"?"]),
         };
