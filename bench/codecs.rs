@@ -1,0 +1,334 @@
+//! The exported entries of libhourheron.a beside plain Rust (plain.rs) on the same inputs. First every answer and all of the lent
+//! memory are compared, on messages and numbers in range and on damaged ones; then the ones in range are timed, in turns.
+//!
+//! codecs time     one line an entry: its name, then the medians of ours and of plain Rust in nanoseconds a call, and of the ratio
+//! codecs count    runs each entry once on each input in range, to be counted by callgrind; prints nothing
+
+mod heron;
+mod plain;
+#[allow(dead_code)] // not every kind of number is asked for here
+#[path = "../tests/host/random.rs"]
+mod random;
+
+use plain::{Fields, Fixed, Refusal};
+use random::Random;
+use std::hint::black_box;
+use std::process::exit;
+use std::time::{Duration, Instant};
+
+const SEED: u64 = 1;
+const INPUTS: usize = 1024;
+const ROUNDS: usize = 31;
+const ROUND: Duration = Duration::from_millis(4);
+const ROOM: usize = 128;
+
+// ---- inputs
+
+struct Record {
+    fields: Fields,
+    serial: [u8; 9],
+    with_sum: bool,
+}
+
+struct Data {
+    serial: [u8; 9],
+    owner: [u8; 31],
+    kind: u8,
+    numbers: [u32; 3],
+    letter: u8,
+    version: [u8; 4],
+    with_sum: bool,
+}
+
+impl Data {
+    fn fixed(&self) -> Fixed<'_> {
+        let [focal, maximum, transmission] = self.numbers;
+        let (serial, owner, version) = (&self.serial[..], &self.owner[..], &self.version[..]);
+        Fixed { serial, owner, kind: self.kind, focal, maximum, letter: self.letter, transmission, version }
+    }
+}
+
+struct Message {
+    bytes: Vec<u8>,
+    with_sum: bool,
+}
+
+struct Number {
+    field: u32,
+    n: i32,
+    unit: u8,
+    wanted: u8,
+}
+
+fn text<const N: usize>(random: &mut Random) -> [u8; N] {
+    std::array::from_fn(|_| random.between(0x20, 0x7E) as u8)
+}
+
+fn record(random: &mut Random) -> Record {
+    let highest = [9_999_999, 4095, 99, 9, 1023, 9_999_999, 9_999_999, 9_999_999, 4095, 999, 1000];
+    let mut fields = highest.map(|high| random.between(0, high) as i32);
+    if random.flag() {
+        fields[2] = 10 * random.between(10, 25) as i32;
+    }
+    if random.flag() {
+        fields[9] = -fields[9];
+    }
+    Record { fields, serial: text(random), with_sum: random.flag() }
+}
+
+fn data(random: &mut Random) -> Data {
+    let mut owner = text(random);
+    owner[random.below(32)..].fill(b' ');
+    Data {
+        serial: text(random),
+        owner,
+        kind: random.pick(b"PZ"),
+        numbers: [999, 999, 99].map(|high| random.between(0, high) as u32),
+        letter: random.pick(b"IMBb"),
+        version: text(random),
+        with_sum: random.flag(),
+    }
+}
+
+fn number(random: &mut Random) -> Number {
+    let unit = random.pick(b"IM");
+    let (distance, reach) = if unit == b'I' { (3_937_007, 393) } else { (9_999_999, 999) };
+    let field = random.pick(&[1, 6, 7, 8, 10]);
+    let n = if field == 10 { random.between(-reach, reach) } else { random.between(0, distance) };
+    Number { field, n: n as i32, unit, wanted: random.pick(b"IM") }
+}
+
+fn message(write: impl FnOnce(&mut [u8]) -> usize, with_sum: bool) -> Message {
+    let mut bytes = vec![0; ROOM];
+    let length = write(&mut bytes);
+    bytes.truncate(length);
+    Message { bytes, with_sum }
+}
+
+/// Inputs in range, and as many out of it: each is one of the first, damaged.
+struct Inputs<T> {
+    right: Vec<T>,
+    wrong: Vec<T>,
+}
+
+fn inputs<T>(mut make: impl FnMut(&mut Random) -> T, mut damage: impl FnMut(&mut Random, &mut T)) -> Inputs<T> {
+    let mut random = Random(SEED);
+    let right = (0..INPUTS).map(|_| make(&mut random)).collect();
+    let mut damaged = || {
+        let mut input = make(&mut random);
+        damage(&mut random, &mut input);
+        input
+    };
+    Inputs { right, wrong: (0..16 * INPUTS).map(|_| damaged()).collect() }
+}
+
+fn messages(make: impl FnMut(&mut Random) -> Message) -> Inputs<Message> {
+    inputs(make, |random, m| {
+        let place = random.below(m.bytes.len());
+        match random.below(16) {
+            0 => m.bytes.truncate(place),
+            1 => m.with_sum = !m.with_sum,
+            2 => m.bytes[place] = random.byte(),
+            _ => {
+                m.bytes[place] = random.pick(b"0129.+- :/SDdNT@`\x80");
+                reseal(m);
+            }
+        }
+    })
+}
+
+/// Puts the right checksum and ending on, so that a reader reaches the contents.
+fn reseal(m: &mut Message) {
+    let length = m.bytes.len();
+    m.bytes[length - 2..].copy_from_slice(b"\n\r");
+    if m.with_sum {
+        let sum = plain::checksum(&m.bytes[..length - 4]);
+        m.bytes[length - 4..length - 2].copy_from_slice(&sum);
+    }
+}
+
+// ---- one entry
+
+type Outcome = (u32, u64);
+
+fn of_ours(answer: heron::Answer) -> Outcome {
+    (answer.number, answer.value)
+}
+
+fn of_plain(answer: Result<usize, Refusal>) -> Outcome {
+    answer.map_or_else(Refusal::number_and_value, |count| (0, count as u64))
+}
+
+enum Mode {
+    Time,
+    Count,
+}
+
+/// Nanoseconds a call over the inputs, gone through `turns` times.
+fn timed<T>(inputs: &[T], turns: usize, out: &mut [u8; ROOM], entry: &impl Fn(&T, &mut [u8]) -> Outcome) -> f64 {
+    let start = Instant::now();
+    for _ in 0..turns {
+        for input in inputs {
+            black_box(entry(black_box(input), out));
+        }
+    }
+    start.elapsed().as_secs_f64() * 1e9 / (turns * inputs.len()) as f64
+}
+
+fn median(mut figures: Vec<f64>) -> f64 {
+    figures.sort_by(f64::total_cmp);
+    figures[figures.len() / 2]
+}
+
+fn entry<T>(
+    mode: &Mode,
+    name: &str,
+    inputs: &Inputs<T>,
+    ours: impl Fn(&T, &mut [u8]) -> Outcome,
+    plain: impl Fn(&T, &mut [u8]) -> Outcome,
+) {
+    let mut out = [0; ROOM];
+    if let Mode::Count = mode {
+        for input in &inputs.right {
+            black_box(ours(input, &mut out));
+            black_box(plain(input, &mut out));
+        }
+        return;
+    }
+
+    for (index, input) in inputs.right.iter().chain(&inputs.wrong).enumerate() {
+        for room in [ROOM, 20] {
+            let (mut out_ours, mut out_plain) = ([0xEE; ROOM], [0xEE; ROOM]);
+            let (a, b) = (ours(input, &mut out_ours[..room]), plain(input, &mut out_plain[..room]));
+            if a != b || out_ours != out_plain {
+                eprintln!("codecs: {name}, seed {SEED}, input {index}, room {room}: ours {a:?} {out_ours:02X?}, plain {b:?} {out_plain:02X?}");
+                exit(1);
+            }
+        }
+    }
+
+    let once = timed(&inputs.right, 1, &mut out, &plain) * inputs.right.len() as f64;
+    let turns = 1 + (ROUND.as_nanos() as f64 / once) as usize;
+    let rounds: Vec<[f64; 2]> = (0..ROUNDS)
+        .map(|_| [timed(&inputs.right, turns, &mut out, &ours), timed(&inputs.right, turns, &mut out, &plain)])
+        .collect();
+    let column = |figure: fn(&[f64; 2]) -> f64| median(rounds.iter().map(figure).collect());
+    println!("{name} {:.1} {:.1} {:.2}", column(|r| r[0]), column(|r| r[1]), column(|r| r[1] / r[0]));
+}
+
+fn main() {
+    let mode = match std::env::args().nth(1).as_deref() {
+        Some("time") => Mode::Time,
+        Some("count") => Mode::Count,
+        _ => {
+            eprintln!("usage: codecs time|count");
+            exit(2);
+        }
+    };
+
+    let records = inputs(record, |random, r| {
+        r.fields[random.below(11)] = random.pick(&[-1000, -1, 101, 251, 1001, 4096, 10_000_000, i32::MIN]);
+        r.serial[random.below(9)] = random.pick(&[0x1F, 0x20, 0x7E, 0x7F]);
+    });
+    let fixed = inputs(data, |random, d| {
+        d.numbers[random.below(3)] = random.pick(&[99, 100, 999, 1000, u32::MAX]);
+        d.owner[random.below(31)] = random.pick(&[0x1F, 0x20, 0x7E, 0x7F]);
+        d.kind = random.pick(b"PZp");
+        d.letter = random.pick(b"IMBbi");
+    });
+    let numbers = inputs(number, |random, c| {
+        c.n += random.pick(&[-10_000_000, -1000, 1000, 10_000_000]);
+        c.field = random.below(12) as u32;
+        c.wanted = random.pick(b"IMi");
+    });
+    let written = |put: fn(&Fields, &[u8; 9], bool, &mut [u8]) -> usize| {
+        messages(move |random| {
+            let r = record(random);
+            message(|out| put(&r.fields, &r.serial, r.with_sum, out), r.with_sum)
+        })
+    };
+    let texts = written(plain::put_text);
+    let packed = written(plain::put_packed);
+    let fixed_messages = messages(|random| {
+        let d = data(random);
+        message(|out| plain::put_fixed(&d.fixed(), d.with_sum, out), d.with_sum)
+    });
+
+    entry(
+        &mode,
+        "write_text",
+        &records,
+        |r, out| of_ours(heron::write_text(&r.fields, &r.serial, r.with_sum, out)),
+        |r, out| of_plain(plain::write_text(&r.fields, &r.serial, r.with_sum, out)),
+    );
+    entry(
+        &mode,
+        "read_text",
+        &texts,
+        |m, out| of_ours(heron::read_text(&m.bytes, m.with_sum, out)),
+        |m, out| of_plain(plain::read_text(&m.bytes, m.with_sum, out)),
+    );
+    entry(
+        &mode,
+        "write_packed",
+        &records,
+        |r, out| of_ours(heron::write_packed(&r.fields, &r.serial, r.with_sum, out)),
+        |r, out| of_plain(plain::write_packed(&r.fields, &r.serial, r.with_sum, out)),
+    );
+    entry(
+        &mode,
+        "read_packed",
+        &packed,
+        |m, out| of_ours(heron::read_packed(&m.bytes, m.with_sum, out)),
+        |m, out| of_plain(plain::read_packed(&m.bytes, m.with_sum, out)),
+    );
+    entry(
+        &mode,
+        "write_fixed",
+        &fixed,
+        |d, out| of_ours(heron::write_fixed(&d.fixed(), d.with_sum, out)),
+        |d, out| of_plain(plain::write_fixed(&d.fixed(), d.with_sum, out)),
+    );
+    entry(
+        &mode,
+        "read_fixed",
+        &fixed_messages,
+        |m, out| of_ours(heron::read_fixed(&m.bytes, m.with_sum, out)),
+        |m, out| of_plain(plain::read_fixed(&m.bytes, m.with_sum, out)),
+    );
+    entry(
+        &mode,
+        "owner_start",
+        &fixed_messages,
+        |m, _| of_ours(heron::owner_start(&m.bytes, m.with_sum)),
+        |m, _| of_plain(plain::owner_start(&m.bytes, m.with_sum)),
+    );
+    entry(
+        &mode,
+        "owner_len",
+        &fixed_messages,
+        |m, _| of_ours(heron::owner_len(&m.bytes, m.with_sum)),
+        |m, _| of_plain(plain::owner_len(&m.bytes, m.with_sum)),
+    );
+    entry(
+        &mode,
+        "convert",
+        &numbers,
+        |c, _| {
+            let done = heron::convert(c.field, c.n, c.unit, c.wanted);
+            if done.number == 0 {
+                (0, done.value as u64)
+            } else {
+                (done.number, done.field.into())
+            }
+        },
+        |c, _| plain::convert(c.field, c.n, c.unit, c.wanted).map_or_else(Refusal::number_and_value, |n| (0, n as u64)),
+    );
+    entry(
+        &mode,
+        "checksum",
+        &texts,
+        |m, _| of_ours(heron::checksum(&m.bytes)),
+        |m, _| (0, u16::from_be_bytes(plain::checksum_of(&m.bytes)).into()),
+    );
+}
