@@ -51,30 +51,16 @@ pub struct Handed {
     pub port: Port,
 }
 
-// The last byte of a message moves the rate.
-fn moved(s: Source, ended: bool) -> Source
-    ensures { λ r. ⌜ r ≡ movedIf ended s ⌝ }
-{
-    if ended {
-        let mut modes = s.modes;
-        modes.rate = modes.next_rate;
-        let mut after = s;
-        after.modes = modes;
-        return after;
-    }
-    s
-}
-
-// The port once its message has been sent up to a place.
+// The port once its message has been sent up to a place: the last byte moves the rate.
 pub fn sent_up_to(p: Port, at: usize) -> Port
     ensures { λ r. ⌜ r ≡ sentUpTo p at ⌝ }
 {
-    let mut message = p.message;
-    message.at = at;
-    let source = moved(p.source, at == message.len);
+    let next_rate = p.source.modes.next_rate;
     let mut after = p;
-    after.source = source;
-    after.message = message;
+    after.message.at = at;
+    if at == p.message.len {
+        after.source.modes.rate = next_rate;
+    }
     after
 }
 
