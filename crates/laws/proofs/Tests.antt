@@ -41,6 +41,15 @@ and-fails b e = sym (ap (λ (t : Bool). t && b) e)
 pub and-goes : {a b r : Bool} → a ≡ true → r ≡ b → r ≡ (a && b)
 and-goes {a} {b} {r} e h = h ∙ sym (ap (λ (t : Bool). t && b) e)
 
+-- the same, by the second test
+pub and-fails-by : (a : Bool) {b : Bool} → b ≡ false → false ≡ (a && b)
+and-fails-by true e = sym e
+and-fails-by false e = refl
+
+pub and-goes-by : (a : Bool) {b r : Bool} → b ≡ true → r ≡ a → r ≡ (a && b)
+and-goes-by true e h = h ∙ sym e
+and-goes-by false e h = h
+
 -- a test holds or fails
 pub told : {C : Type 0} (b : Bool) → (b ≡ true → C) → (b ≡ false → C) → C
 told true f g = f refl

@@ -70,8 +70,7 @@ fn send_from(p: Port, at: usize) -> Slotted
     ensures { λ r. ⌜ r ≡ sendFrom p at ⌝ }
 {
     let message = p.message;
-    let bytes = message.bytes;
-    let byte = bytes[at];
+    let byte = message.bytes[at];
     Slotted {
         sent: Sent::Byte(byte),
         port: sent_up_to(p, at + 1),
@@ -339,17 +338,14 @@ impl Port {
     pub fn is_valid(self) -> bool
         ensures { λ r. ⌜ r ≡ validPort self ⌝ }
     {
-        let source = self.source;
-        if !state::valid_source(source) {
-            return false;
-        }
         let message = self.message;
-        if !state::valid_message(message) {
-            return false;
-        }
         let waiting = self.waiting;
         let line = waiting.line;
-        line.is_valid()
+        if !(state::valid_message(message) & line.is_valid()) {
+            return false;
+        }
+        let source = self.source;
+        state::valid_source(source)
     }
 
     // A start: 8 with the lowest item, then 1 with the lowest field; a refused one hands the old port back.

@@ -85,18 +85,18 @@ pub fn valid_message(m: Message) -> bool
     (m.len <= MESSAGE_LENGTH) & (m.at <= m.len)
 }
 
-// Whether the settings, the measurement and the modes are in their ranges.
+// Whether the settings, the measurement and the modes are in their ranges. The settings, which cost most, come last.
 pub fn valid_source(s: Source) -> bool
     ensures { λ r. ⌜ r ≡ validSource s ⌝ }
 {
-    let settings = s.settings;
-    if fixed::lowest_setting(settings) != 0 {
-        return false;
-    }
     let measurement = s.measurement;
     if !is_done(units::check_measurement(measurement)) {
         return false;
     }
     let modes = s.modes;
-    valid_modes(modes)
+    if !valid_modes(modes) {
+        return false;
+    }
+    let settings = s.settings;
+    fixed::lowest_setting(settings) == 0
 }

@@ -8,8 +8,8 @@ use borrow.Author.Needs.{needs}
 use Rattle.port.proofs.send_from.Statement.{statement}
 use Rattle.port.proofs.send_from.Tie as tie
 
-array-read-byte : tie.Need-array-read-byte
-array-read-byte c = search needs
+element-copy-out-byte : tie.Need-element-copy-out-byte
+element-copy-out-byte c = search needs
 
 add-sent-up-to : tie.Need-add-sent-up-to
 add-sent-up-to c = search needs
@@ -24,4 +24,4 @@ returns c =
     ap (λ (q : Port). record { sent = sent.Byte (getD (a .p .message .bytes) (a .at) 0); port = q }) (c .sent-up-to .ensures)
 
 pub send-from-spec : {M : Type 1} → statement M
-send-from-spec = tie.close (tie.spec array-read-byte add-sent-up-to sent-up-to-requires returns)
+send-from-spec = tie.close (tie.spec element-copy-out-byte add-sent-up-to sent-up-to-requires returns)

@@ -1,28 +1,36 @@
--- `state::valid_source` meets its contract: the settings, the measurement, the modes, in this order. Assumes nothing.
+-- `state::valid_source` meets its contract: a test that fails decides, wherever it stands among the three. Assumes nothing.
+use Prim.Native.Nat.{ℕ}
 use mathlib.Core.Bool.{Bool, true, false}
 use mathlib.Core.Path.{_≡_, sym, ap, _∙_}
-use Prim.Native.Nat.{ℕ}
-use lib.Dec.{eqb}
-use borrow.Author.Tests.{eq-eqb, ne-eqb, not-true, not-false}
-use Rattle.laws.proofs.Tests.{and-fails, and-goes}
-use Rattle.state.specs.State.{isDone, validSource}
 use borrow.Author.Needs.{needs}
+use borrow.Author.Tests.{not-true, not-false}
+use lib.Dec.{eqb}
+use Rattle.laws.proofs.Tests.{and-both, and-fails, and-fails-by, and-goes-by}
+use Rattle.fixed.specs.Fixed.{settingsLowest}
+use Rattle.units.specs.Measurement.{measurementVerdict}
+use Rattle.state.specs.declared.Source.{Source}
+use Rattle.state.specs.State.{isDone, validModes, validSource}
 use Rattle.state.proofs.valid_source.Statement.{statement}
 use Rattle.state.proofs.valid_source.Tie as tie
 
-lowest-setting-requires : tie.Need-lowest-setting-requires
-lowest-setting-requires c κs = search needs
+module _ (s : Source) where
+  abbrev set : Bool
+  set = eqb (settingsLowest (s .settings)) 0
 
--- no setting out of range, or one
-none : {a b : ℕ} → a ≡ b → a ≡ 0 → eqb b 0 ≡ true
-none e z = eq-eqb _ 0 (sym e ∙ z)
+  abbrev done : Bool
+  done = isDone (measurementVerdict (s .measurement))
 
-some : {a b : ℕ} → a ≡ b → (a ≡ 0 → ⊥) → eqb b 0 ≡ false
-some {a} {b} e n = ne-eqb b 0 (λ z. n (e ∙ z))
+  by-measurement : done ≡ false → false ≡ validSource s
+  unfolding validSource
+  by-measurement e = and-fails-by set (sym (and-fails (validModes (s .modes)) e))
 
-returns : tie.Need-returns
-unfolding validSource
-returns c = and-fails _ (some (c .before .lowest-setting .ensures) (c .if1 .taken))
+  by-modes : validModes (s .modes) ≡ false → false ≡ validSource s
+  unfolding validSource
+  by-modes e = and-fails-by set (sym (and-fails-by done e))
+
+  by-settings : done ≡ true → validModes (s .modes) ≡ true → {r : Bool} → r ≡ set → r ≡ validSource s
+  unfolding validSource
+  by-settings d m e = and-goes-by set (and-both d m) e
 
 check-measurement-requires : tie.Need-check-measurement-requires
 check-measurement-requires c κs = search needs
@@ -30,34 +38,42 @@ check-measurement-requires c κs = search needs
 is-done-requires : tie.Need-is-done-requires
 is-done-requires c κs = search needs
 
-returns-2 : tie.Need-returns-2
-unfolding validSource
-returns-2 c =
-    let d = c .before in
-    let a = d .before .before .before in
-    and-goes (none (a .before .lowest-setting .ensures) (a .if1 .left))
-    (and-fails _ (sym (d .is-done .ensures ∙ ap isDone (d .before .check-measurement .ensures)) ∙ not-true _ (c .if2 .taken)))
+-- what the measurement's test says
+measured : (d : tie.After-is-done) → isDone (measurementVerdict (d .before .before .before .args .s .measurement)) ≡ d .is-done .result
+measured d = sym (d .is-done .ensures ∙ ap isDone (d .before .check-measurement .ensures))
+
+returns : tie.Need-returns
+returns c = by-measurement (c .before .before .before .before .args .s) (measured (c .before) ∙ not-true _ (c .if1 .taken))
 
 valid-modes-requires : tie.Need-valid-modes-requires
 valid-modes-requires c κs = search needs
 
+returns-2 : tie.Need-returns-2
+returns-2 c =
+    let f = c .before .before .before in
+    by-modes (f .before .before .before .before .args .s) (sym (c .before .valid-modes .ensures) ∙ not-true _ (c .if2 .taken))
+
+lowest-setting-requires : tie.Need-lowest-setting-requires
+lowest-setting-requires c κs = search needs
+
 returns-3 : tie.Need-returns-3
-unfolding validSource
 returns-3 c =
-    let b = c .before .before in
-    let d = b .before in
-    let a = d .before .before .before in
-    and-goes (none (a .before .lowest-setting .ensures) (a .if1 .left))
-    (and-goes (sym (d .is-done .ensures ∙ ap isDone (d .before .check-measurement .ensures)) ∙ not-false _ (b .if2 .left)) (c .valid-modes .ensures))
+    let e = c .before .before in
+    let v = e .before in
+    let f = v .before .before in
+    by-settings (f .before .before .before .before .args .s)
+    (measured (f .before) ∙ not-false _ (f .if1 .left))
+    (sym (v .valid-modes .ensures) ∙ not-false _ (e .if2 .left))
+    (ap (λ (n : ℕ). eqb n 0) (c .lowest-setting .ensures))
 
 pub valid-source-spec : {M : Type 1} → statement M
 valid-source-spec =
     tie.close
     (tie.spec
-    lowest-setting-requires
-    returns
     check-measurement-requires
     is-done-requires
-    returns-2
+    returns
     valid-modes-requires
+    returns-2
+    lowest-setting-requires
     returns-3)
