@@ -4,6 +4,7 @@ use mathlib.Core.Bool.{Bool}
 use mathlib.Core.List.{List}
 use mathlib.Core.Path.{_≡_}
 use lib.IntN.{ℤ}
+use Rattle.laws.specs.Gives.{Gives}
 use Rattle.laws.proofs.OneAnswer.{one-answer, one-outcome}
 use Rattle.refusal.specs.Answer.{Answer, accepted}
 use Rattle.refusal.specs.declared.Refusal.{Refusal}
@@ -14,6 +15,9 @@ use Rattle.record.specs.Forms.{textForm, packedForm}
 use Rattle.fixed.specs.Form.{fixedForm}
 use Rattle.nreader.specs.Reader.{ownerAt, ownerLength}
 use Rattle.units.specs.Units.{conversion}
+use Rattle.line.specs.declared.Line.{Line}
+use Rattle.collector.specs.declared.Collected.{Collected}
+use Rattle.collector.specs.Collect.{lineAfter, collected}
 use Rattle.layout.specs.Layout.{recordBytes, recordWidth, fixedBytes, fixedWidth}
 use Rattle.hourheron.specs.Host.{answerOf, conversionOf, checksumOf, Writes, Lays, askedOf}
 use Rattle.hourheron.specs.declared.Answer as host
@@ -67,3 +71,9 @@ one-heron-convert field number unit wanted = one-answer
 
 pub one-heron-checksum : (bytes : List ℕ) {r r′ : host.Answer} → r ≡ answerOf (accepted (checksumOf bytes)) → r′ ≡ answerOf (accepted (checksumOf bytes)) → r ≡ r′
 one-heron-checksum bytes = one-answer
+
+-- ---- the line collector
+
+pub one-heron-collect : (l : Line) (b : ℕ) {r r′ : Collected} {after after′ : Line} →
+    Gives (collected l b) (lineAfter l b) r after → Gives (collected l b) (lineAfter l b) r′ after′ → (r ≡ r′) × (after ≡ after′)
+one-heron-collect l b = one-outcome

@@ -1,8 +1,10 @@
 // For a C host: the writers, the readers, the owner's part, the conversion and the checksum, on
-// numbers and byte slices. No rule of the paper stands here.
+// numbers and byte slices, and the line collector that the host keeps. No rule of the paper stands here.
+use collector::Collected;
 use fixed::FixedRead;
 use fixed::Lens;
 use frame::Wrote;
+use line::Line;
 use record::Figures;
 use record::Record;
 use record::RecordRead;
@@ -17,6 +19,8 @@ ghost use Rattle.record.specs.Forms.{textForm, packedForm};
 ghost use Rattle.record.specs.Record.{recordLowest, recordRead};
 ghost use Rattle.fixed.specs.Form.{fixedForm};
 ghost use Rattle.nreader.specs.Reader.{ownerAt, ownerLength};
+ghost use Rattle.laws.specs.Gives.{Gives};
+ghost use Rattle.collector.specs.Collect.{lineAfter, collected};
 ghost use Rattle.units.specs.Units.{conversion};
 ghost use Rattle.layout.specs.Layout.{recordBytes, recordWidth, fixedBytes, fixedWidth};
 ghost use Rattle.hourheron.specs.Host.{answerOf, answerTo, conversionOf, checksumOf, Writes, recordFrom, fixedFrom, withSerial, givenOf, Lays, askedOf};
@@ -354,4 +358,14 @@ pub extern "C" fn heron_owner_len(message: &[u8], checksum: bool) -> Answer
             done(part.len())
         }
     }
+}
+
+// ---- the line collector
+
+// A received byte, to a collector that is updated where it is kept.
+#[no_mangle]
+pub extern "C" fn heron_collect(line: &mut Line, byte: u8) -> Collected
+    ensures { λ r. ⌜ Gives (collected (now (line .entry)) byte) (lineAfter (now (line .entry)) byte) r (now (line .exit)) ⌝ }
+{
+    collector::collect(line, byte)
 }

@@ -7,6 +7,7 @@ ghost use Rattle.line.specs.Command.{oneByte, afterK, twoBytes, afterKb,
 pub const LINE_LENGTH: usize = 64;
 
 // The received bytes since the last carriage return. More than the line keeps make it overlong.
+#[repr(C)]
 pub struct Line {
     pub bytes: [u8; LINE_LENGTH],
     pub len: usize,

@@ -1,0 +1,51 @@
+-- `collector::answer` meets its contract: its tests are those of `collected`. Assumes nothing.
+use Prim.Native.Nat.{ℕ}
+use mathlib.Core.Bool.{false}
+use mathlib.Core.Path.{refl, sym, ap, ap₂, _∙_}
+use borrow.Author.Tests.{eq-eqb, ne-eqb, not-true, not-false}
+use Rattle.laws.proofs.Tests.{yes, no}
+use Rattle.line.specs.declared.Line.{Line}
+use Rattle.collector.specs.declared.Collected.{Collected}
+use Rattle.collector.specs.Collect.{collected}
+use borrow.Author.Needs.{needs}
+use Rattle.collector.proofs.answer.Statement.{statement}
+use Rattle.collector.proofs.answer.Tie as tie
+
+is-valid-requires : tie.Need-is-valid-requires
+is-valid-requires c κs = search needs
+
+number-of-requires : tie.Need-number-of-requires
+number-of-requires c κs = search needs
+
+blank-requires : tie.Need-blank-requires
+blank-requires c κs = search needs
+
+-- no line ended
+abbrev none : ℕ → Line → Collected
+none n l = record { number = n; ended = false; line = l }
+
+returns : tie.Need-returns
+unfolding collected
+returns c =
+    let v = c .before .before in
+    no _ (sym (v .before .is-valid .ensures) ∙ not-true _ (v .if1 .taken)) (ap₂ none (c .before .number-of .ensures) (c .blank .ensures))
+
+returns-2 : tie.Need-returns-2
+unfolding collected
+returns-2 c =
+    let v = c .before in
+    yes _ (sym (v .before .is-valid .ensures) ∙ not-false _ (v .if1 .left)) (yes _ (eq-eqb _ _ (c .if2 .taken)) refl)
+
+blank-requires-2 : tie.Need-blank-requires-2
+blank-requires-2 c κs = search needs
+
+returns-3 : tie.Need-returns-3
+unfolding collected
+returns-3 c =
+    let v = c .before .before in
+    yes _ (sym (v .before .is-valid .ensures) ∙ not-false _ (v .if1 .left)) (no _ (ne-eqb _ _ (c .before .if2 .left)) (ap (none 0) (c .blank2 .ensures)))
+
+pub answer-spec : {M : Type 1} → statement M
+answer-spec =
+    tie.close
+    (tie.spec is-valid-requires number-of-requires blank-requires returns returns-2 blank-requires-2 returns-3)
