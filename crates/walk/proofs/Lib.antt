@@ -1,3 +1,4 @@
 pub mod Slot
 pub mod Walk
 pub mod Calls
+pub mod InPlace
