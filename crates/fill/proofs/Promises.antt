@@ -38,10 +38,17 @@ then-most (sent.Byte b) q r n h = omega arith
 then-most sent.Idle q r n h = omega arith
 then-most (sent.Refused x) q r n h = omega arith
 
-at-most : (p : Port) (n : ℕ) → length (runOf n p .bytes) ≤ n
+run-most : (p : Port) (n : ℕ) → length (runOf n p .bytes) ≤ n
 unfolding runOf
-at-most p zero = omega arith
-at-most p (suc n) = then-most (slotOf p .sent) (slotOf p .port) (runOf n (slotOf p .port)) n (at-most (slotOf p .port) n)
+run-most p zero = omega arith
+run-most p (suc n) = then-most (slotOf p .sent) (slotOf p .port) (runOf n (slotOf p .port)) n (run-most (slotOf p .port) n)
+
+at-most : (p : Port) (n : ℕ) → fillOf p n .count ≤ n
+unfolding fillOf
+at-most p n =
+    told (validPort p)
+    (λ v. subst (λ (x : Filled). x .count ≤ n) (sym (cond-yes _ _ v)) (run-most p n))
+    (λ f. subst (λ (x : Filled). x .count ≤ n) (sym (cond-no _ _ f)) (omega arith))
 
 then-valid : (t : Sent) (q : Port) (r : Run) → validPort q ≡ true → validPort (r .port) ≡ true → validPort (thenRun t q r .port) ≡ true
 then-valid (sent.Byte b) q r h k = k

@@ -1,21 +1,21 @@
 -- What the driver's call promises beside its exact answer: statements only.
 use Prim.Native.Nat.{ℕ, _≤_}
 use mathlib.Core.Bool.{true}
-use mathlib.Core.List.{List, []}
+use mathlib.Core.List.{List}
 use mathlib.Core.Path.{_≡_}
 use lib.ListN.{length}
 use Rattle.refusal.specs.declared.Refusal.{Refusal}
 use Rattle.refusal.specs.declared.Verdict.the-variants.{Refused}
 use Rattle.port.specs.declared.Port.{Port}
 use Rattle.port.specs.Port.{validPort}
-use Rattle.fill.specs.Fill.{runOf, fillOf, fillLeaves}
+use Rattle.fill.specs.Fill.{fillOf, fillLeaves}
 
 pub record Promised : Type 0 where
   -- a refusal changes no state and writes no byte
   pub refused-port : (p : Port) (n : ℕ) (r : Refusal) → fillOf p n .verdict ≡ Refused r → fillOf p n .port ≡ p
   pub refused-bytes : (p : Port) (out : List ℕ) (r : Refusal) → fillOf p (length out) .verdict ≡ Refused r → fillLeaves p out ≡ out
   -- it never counts more than the buffer holds
-  pub at-most : (p : Port) (n : ℕ) → length (runOf n p .bytes) ≤ n
+  pub at-most : (p : Port) (n : ℕ) → fillOf p n .count ≤ n
   -- "The driver's call with an empty buffer runs no slot and returns 0"
   pub empty : (p : Port) → fillOf p 0 .port ≡ p
   pub none : (p : Port) → fillOf p 0 .count ≡ 0

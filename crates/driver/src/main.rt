@@ -1,0 +1,187 @@
+// The driver: it keeps one port and one line collector, and moves bytes between standard input and
+// output. Each turn runs a few slots into a lent buffer, writes what they sent, and takes a received
+// byte if there is one. While the lens sends it does not wait for input; where nothing is left to send
+// it does. So that it can look without waiting, whoever starts it sets O_NONBLOCK on standard input;
+// an input that waits is answered byte by byte, slots run until idle, at most 400.
+use libc::EAGAIN;
+use libc::EINTR;
+use libc::STDIN_FILENO;
+use libc::STDOUT_FILENO;
+use line::Line;
+use port::Port;
+ghost use mathlib.Core.Path.{_≡_};
+ghost use Rattle.collector.specs.Collect.{lineAfter};
+ghost use Rattle.walk.specs.InPlace.{portInPlace};
+
+// The slots of a turn: as many as a small transmit buffer holds, or all that an input that waits gets.
+const FEW: usize = 16;
+
+const MOST: usize = 400;
+
+// The port and its collector.
+struct Lens {
+    port: Port,
+    line: Line,
+}
+
+struct Desk {
+    lens: Lens,
+    // no look has come back empty yet: the input may be one that waits
+    waits: bool,
+    // more bytes may come
+    open: bool,
+}
+
+// What a turn's slots left.
+struct Turn {
+    port: Port,
+    // the slots filled the buffer: there may be more to send
+    full: bool,
+    written: bool,
+}
+
+// What a look at the input found.
+enum Seen {
+    Byte(u8),
+    Nothing,
+    End,
+}
+
+// A received byte: the collector is updated in place, and a line that it ended goes to the port.
+fn received(port: Port, line: Line, byte: u8) -> Lens
+    ensures { λ r. ⌜ (r .port ≡ portInPlace port line byte) × (r .line ≡ lineAfter line byte) ⌝ }
+{
+    let updated = collector::lend(line, byte);
+    let kept = updated.line;
+    let answer = updated.answer;
+    if answer.ended {
+        let ended = answer.line;
+        let taken = port.receive(ended, 13);
+        let next = taken.port;
+        return Lens {
+            port: next,
+            line: kept,
+        };
+    }
+    Lens { port, line: kept }
+}
+
+// One byte of an input, if there is one.
+fn look(fd: i32) -> Seen {
+    let mut byte = [0u8; 1];
+    let got = libc::read(fd, &mut byte);
+    if 0 < got {
+        return Seen::Byte(byte[0]);
+    }
+    if got == 0 {
+        return Seen::End;
+    }
+    let error = os::errno();
+    if (error == EAGAIN) | (error == EINTR) {
+        return Seen::Nothing;
+    }
+    Seen::End
+}
+
+// Runs slots into a lent buffer and writes the bytes sent.
+fn sent(port: Port, out: &mut [u8]) -> Turn {
+    let filled = fill::fill(port, out);
+    let n = filled.count;
+    let next = filled.port;
+    let full = n == out.len();
+    let written = io::write_all(STDOUT_FILENO, &out[..n]);
+    Turn {
+        port: next,
+        full,
+        written,
+    }
+}
+
+// The slots of a turn.
+fn slots(port: Port, waits: bool) -> Turn {
+    if waits {
+        let mut out = [0u8; MOST];
+        return sent(port, &mut out);
+    }
+    let mut out = [0u8; FEW];
+    sent(port, &mut out)
+}
+
+// The desk after a look.
+fn noted(desk: Desk, found: Seen) -> Desk {
+    let mut after = desk;
+    match found {
+        Seen::Byte(byte) => {
+            let lens = desk.lens;
+            let next = received(lens.port, lens.line, byte);
+            after.lens = next;
+        }
+        Seen::Nothing => {
+            after.waits = false;
+        }
+        Seen::End => {
+            after.open = false;
+        }
+    }
+    after
+}
+
+// A turn: slots, then a look; where nothing is left to send and nothing has come, a look that waits.
+fn turned(desk: Desk, waiting: i32) -> Desk {
+    let lens = desk.lens;
+    let line = lens.line;
+    let turn = slots(lens.port, desk.waits);
+    let port = turn.port;
+    let now = Lens { port, line };
+    let mut after = desk;
+    after.lens = now;
+    after.open = turn.written;
+    if !turn.written {
+        return after;
+    }
+    let found = look(STDIN_FILENO);
+    if turn.full {
+        return noted(after, found);
+    }
+    if let Seen::Nothing = found {
+        return noted(noted(after, found), look(waiting));
+    }
+    noted(after, found)
+}
+
+// A proved loop has to end, and nothing says that the input does: the turns count down from a number
+// that no run uses up.
+fn run(desk: Desk, waiting: i32) {
+    let mut now = desk;
+    let mut turns = u64::MAX;
+    while 0 < turns {
+        if !now.open {
+            return;
+        }
+        now = turned(now, waiting);
+        turns -= 1;
+    }
+}
+
+fn main() {
+    let handed = Port::start(
+        Port::unstarted(),
+        bench_lens::settings(b'I'),
+        bench_lens::measurement(),
+    );
+    let port = handed.port;
+    let lens = Lens {
+        port,
+        line: Line::blank(),
+    };
+    // standard input once more, as a descriptor that waits
+    let waiting = os::open_read(b"/dev/stdin");
+    run(
+        Desk {
+            lens,
+            waits: true,
+            open: true,
+        },
+        waiting,
+    );
+}
