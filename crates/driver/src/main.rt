@@ -1,8 +1,8 @@
 // The driver: it keeps one port and one line collector, and moves bytes between standard input and
-// output. Each turn runs a few slots into a lent buffer, writes what they sent, and takes a received
-// byte if there is one. While the lens sends it does not wait for input; where nothing is left to send
-// it does. So that it can look without waiting, whoever starts it sets O_NONBLOCK on standard input;
-// an input that waits is answered byte by byte, slots run until idle, at most 400.
+// output. A turn is a slot: its byte is written, and a received byte is taken if one has come. While
+// the lens sends, the driver does not wait for input; where nothing is left to send, it does. So that
+// it can look without waiting, whoever starts it sets O_NONBLOCK on standard input. On an input that
+// waits, slots run until idle, at most 400, before each byte is read.
 use libc::EAGAIN;
 use libc::EINTR;
 use libc::STDIN_FILENO;
@@ -13,9 +13,7 @@ ghost use mathlib.Core.Path.{_≡_};
 ghost use Rattle.collector.specs.Collect.{lineAfter};
 ghost use Rattle.walk.specs.InPlace.{portInPlace};
 
-// The slots of a turn: as many as a small transmit buffer holds, or all that an input that waits gets.
-const FEW: usize = 16;
-
+// The slots of a turn on an input that waits.
 const MOST: usize = 400;
 
 // The port and its collector.
@@ -103,7 +101,7 @@ fn slots(port: Port, waits: bool) -> Turn {
         let mut out = [0u8; MOST];
         return sent(port, &mut out);
     }
-    let mut out = [0u8; FEW];
+    let mut out = [0u8; 1];
     sent(port, &mut out)
 }
 
