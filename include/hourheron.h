@@ -1,8 +1,8 @@
 /* hourheron.h: the messages of a Cooke /i lens for a C host. C99 and C++11.
  *
  * Writers and readers of the text record (D), the packed record (Kd) and the fixed data (N), the
- * conversion between 0.1 inch and 1 mm, and the checksum. They are proved in Rattle: each takes any
- * input, and a reader accepts exactly the messages that its writer writes.
+ * conversion between 0.1 inch and 1 mm, the checksum, and the collector of a received line. They are
+ * proved in Rattle: each takes any input, and a reader accepts exactly the messages that its writer writes.
  *
  * Every function answers by value with a number: 0 for done, else a refusal (enum heron_refusal). A
  * refusal writes to no memory of yours, and what does not come with an answer is 0. No function keeps
@@ -47,9 +47,12 @@
 #define HERON_OWNER_LEN 31
 #define HERON_VERSION_LEN 4
 
+/* Of a received line: the bytes that it keeps. */
+#define HERON_LINE_LEN 64
+
 /* ---- refusals */
 
-/* The numbers, with what is in `value` beside each. 7 and 16 are the port's: no function below answers them. */
+/* The numbers, with what is in `value` beside each. 7 is the port's: no function below answers it. */
 enum heron_refusal {
     HERON_DONE = 0,     /* done: the count or what the function says */
     HERON_FIELD = 1,    /* a field out of range: the lowest one; 0 for a unit letter, 13 for a temperature */
@@ -126,6 +129,22 @@ typedef struct heron_fixed {
     uint8_t version[HERON_VERSION_LEN]; /* 8 */
 } heron_fixed;
 
+/* ---- a received line */
+
+/* The bytes received since the last carriage return. A driver keeps one, all zero at first. */
+typedef struct heron_line {
+    uint8_t bytes[HERON_LINE_LEN];
+    size_t len;    /* how many of them count, at most HERON_LINE_LEN */
+    bool overlong; /* more came than a line keeps */
+} heron_line;
+
+/* number: 0 or 16. ended: a carriage return ended the line. line: that line, else all zero. */
+typedef struct heron_collected {
+    uint32_t number;
+    bool ended;
+    heron_line line;
+} heron_collected;
+
 #ifdef __cplusplus
 extern "C" {
 #endif
@@ -187,6 +206,14 @@ heron_converted heron_convert(uint32_t field, int32_t number, uint8_t unit, uint
 
 /* The checksum of some bytes: value is its first character * 256 + its second. Never refused. */
 heron_answer heron_checksum(const uint8_t *bytes, size_t len);
+
+/* ---- the line collector */
+
+/* A received byte. A carriage return ends the line: it is handed out, and *line is all zero again. Another byte
+ * joins *line; one past HERON_LINE_LEN is not kept and makes it overlong. An ended line is a command only where
+ * it is not overlong, and it may be empty. Refused:
+ *   16  line->len is past HERON_LINE_LEN: *line stays as it was */
+heron_collected heron_collect(heron_line *line, uint8_t byte);
 
 #ifdef __cplusplus
 }

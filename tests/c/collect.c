@@ -1,0 +1,128 @@
+/* Hands bytes to heron_collect from C, and compares each answer and the collector afterwards with what document 01 says.
+ *
+ * collect [SEED [CASES]]
+ *
+ * The collector lies at the end or at the start of a page between two that nobody may touch. Every byte is tried on every
+ * count that is allowed and on counts past it; then CASES random lines are sent byte by byte. Exit status 1 if something
+ * is wrong. */
+#define _DEFAULT_SOURCE
+#include <hourheron.h>
+#include <inttypes.h>
+#include <stdio.h>
+#include <stdlib.h>
+#include <sys/mman.h>
+#include <unistd.h>
+
+enum { RETURN = 13 };
+
+static unsigned long checks, wrong;
+static uint64_t random_state;
+static heron_line *collectors[2];
+
+static uint64_t random_next(void) /* splitmix64 */
+{
+    uint64_t z = random_state += 0x9E3779B97F4A7C15u;
+    z = (z ^ (z >> 30)) * 0xBF58476D1CE4E5B9u;
+    z = (z ^ (z >> 27)) * 0x94D049BB133111EBu;
+    return z ^ (z >> 31);
+}
+
+static bool same_line(const heron_line *a, const heron_line *b)
+{
+    return memcmp(a->bytes, b->bytes, HERON_LINE_LEN) == 0 && a->len == b->len && a->overlong == b->overlong;
+}
+
+static void check(bool holds, const char *what, const heron_line *before, uint8_t byte)
+{
+    checks++;
+    if (!holds && wrong++ < 20)
+        printf("c collect: byte %02X on %zu bytes%s: %s\n", byte, before->len, before->overlong ? ", overlong" : "", what);
+}
+
+/* One byte on one collector: what must be answered and left is worked out here, not asked of the library. */
+static heron_collected collect(heron_line *line, uint8_t byte)
+{
+    const heron_line empty = {{0}, 0, false};
+    heron_line before = *line, after = *line, ended = empty;
+    uint32_t number = 0;
+    bool ends = false;
+
+    if (before.len > HERON_LINE_LEN) {
+        number = HERON_STATE;
+    } else if (byte == RETURN) {
+        ends = true;
+        ended = before;
+        after = empty;
+    } else if (before.len == HERON_LINE_LEN) {
+        after.overlong = true;
+    } else {
+        after.bytes[after.len++] = byte;
+    }
+    heron_collected got = heron_collect(line, byte);
+    check(got.number == number, "another number", &before, byte);
+    check(got.ended == ends, ends ? "no line ended" : "a line ended", &before, byte);
+    check(same_line(&got.line, &ended), "another line handed out", &before, byte);
+    check(same_line(line, &after), "another collector left", &before, byte);
+    return got;
+}
+
+/* Every byte on a collector of this count, with random bytes in it. */
+static void test_count(heron_line *line, size_t len, bool overlong)
+{
+    for (unsigned byte = 0; byte <= 255; byte++) {
+        for (size_t i = 0; i < HERON_LINE_LEN; i++)
+            line->bytes[i] = (uint8_t)random_next();
+        line->len = len;
+        line->overlong = overlong;
+        collect(line, (uint8_t)byte);
+    }
+}
+
+/* A line of so many bytes from an empty collector: what is handed out at its end. */
+static void test_line(heron_line *line, size_t len)
+{
+    uint8_t sent[2 * HERON_LINE_LEN];
+    memset(line, 0, sizeof *line);
+    for (size_t i = 0; i < len; i++) {
+        do
+            sent[i] = (uint8_t)random_next();
+        while (sent[i] == RETURN);
+        collect(line, sent[i]);
+    }
+    heron_collected got = collect(line, RETURN);
+    size_t kept = len < HERON_LINE_LEN ? len : HERON_LINE_LEN;
+    check(got.line.len == kept && memcmp(got.line.bytes, sent, kept) == 0, "the ended line has other bytes", &got.line, RETURN);
+    check(got.line.overlong == (len > HERON_LINE_LEN), "the ended line is marked otherwise", &got.line, RETURN);
+}
+
+int main(int argc, char **argv)
+{
+    uint64_t seed = argc > 1 ? strtoull(argv[1], NULL, 10) : 1;
+    unsigned long cases = argc > 2 ? strtoul(argv[2], NULL, 10) : 20000;
+    random_state = seed;
+    size_t page = (size_t)sysconf(_SC_PAGESIZE);
+    uint8_t *three = mmap(NULL, 3 * page, PROT_NONE, MAP_PRIVATE | MAP_ANONYMOUS, -1, 0);
+    if (three == MAP_FAILED || mprotect(three + page, page, PROT_READ | PROT_WRITE) != 0) {
+        perror("c collect: mmap");
+        return 2;
+    }
+    collectors[0] = (heron_line *)(void *)(three + page);
+    collectors[1] = (heron_line *)(void *)(three + 2 * page - sizeof(heron_line));
+
+    const size_t past[] = {HERON_LINE_LEN + 1, 127, 128, 255, 256, SIZE_MAX / 2, SIZE_MAX - 1, SIZE_MAX};
+    for (int place = 0; place < 2; place++) {
+        heron_line *line = collectors[place];
+        for (int overlong = 0; overlong <= 1; overlong++) {
+            for (size_t len = 0; len <= HERON_LINE_LEN; len++)
+                test_count(line, len, overlong);
+            for (size_t i = 0; i < sizeof past / sizeof past[0]; i++)
+                test_count(line, past[i], overlong);
+        }
+        for (size_t len = 0; len <= 2 * HERON_LINE_LEN; len++)
+            test_line(line, len);
+    }
+    for (unsigned long i = 0; i < cases; i++)
+        test_line(collectors[i % 2], random_next() % (HERON_LINE_LEN + 8));
+    printf("c collect: %lu checks, %lu wrong, seed %" PRIu64 "\n", checks, wrong, seed);
+    return wrong > 0;
+}
