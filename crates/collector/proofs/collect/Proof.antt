@@ -63,8 +63,8 @@ use Rattle.collector.proofs.collect.Code as code
 abbrev L : RattleType
 L = line.the-row
 
-abbrev A′ : RattleType
-A′ = answered.the-row
+abbrev K : RattleType
+K = answered.the-row
 
 abbrev Vs : Line → List Val
 Vs = laws.vals line.the-type line′.the-laws
@@ -100,9 +100,9 @@ module _ {M : Type 1} (𝓤 : URA M) (H : Heap 𝓤) (A : Atoms 𝓤) (W : Given
   Post = walkOf 𝓤 H A collect.ended stayed (collect.clauses 𝓤 H A at-mem run) .post (((κ, tt), (q, tt), tt, x, at), tt)
 
   exits : (r : Line) (k : Collected) (w : Val) → Gives (collected h n) (lineAfter h n) k r
-      → ent 𝓤 (⋆ 𝓤 H A (‵ (fobs γ (L .coded .code r)) ∷ ‵ (fbor κ (Body (mem L) b o γ)) ∷ ‵ (flft κ q) ∷ ‵ (A′ .own k (w ∷ [])) ∷ [])) (Post w)
+      → ent 𝓤 (⋆ 𝓤 H A (‵ (fobs γ (L .coded .code r)) ∷ ‵ (fbor κ (Body (mem L) b o γ)) ∷ ‵ (flft κ q) ∷ ‵ (K .own k (w ∷ [])) ∷ [])) (Post w)
   exits r k w g =
-      qed W (‵ (fobs γ (L .coded .code r)) ∷ ‵ (fbor κ (Body (mem L) b o γ)) ∷ ‵ (flft κ q) ∷ ‵ (A′ .own k (w ∷ [])) ∷ []) ∵
+      qed W (‵ (fobs γ (L .coded .code r)) ∷ ‵ (fbor κ (Body (mem L) b o γ)) ∷ ‵ (flft κ q) ∷ ‵ (K .own k (w ∷ [])) ∷ []) ∵
       suffices ! _ (ends-at 𝓤 H A collect.ended stayed (collect.clauses 𝓤 H A at-mem run) W (((κ, tt), (q, tt), tt, x, at), tt) w k (r, (tt, tt)) (tt, (tt, tt))) $ says ! g $ nothing ! $ move ! (3 ∷ 0 ∷ []) $ join ! $
       frame ! $ feqI ! (List Val) (vptr b o ∷ []) (vptr b o ∷ []) refl $ fjoin3 ! $ nothing ! $ owned ! u8 (Is u8) (uint-makes 𝓤 H A W w8) n _ (refl, fits) $ fjoin ! $ move ! (1 ∷ 0 ∷ []) $ fjoin ! $ done !
 
@@ -144,9 +144,9 @@ module _ {M : Type 1} (𝓤 : URA M) (H : Heap 𝓤) (A : Atoms 𝓤) (W : Given
         assigns ! (of-opd ! (load ! (from ! (stop !)) (look ! 6 refl))) (from ! (hop ! (look ! 12 refl) (stop !))) (store-raw ! 1 refl (laws.lawful line.the-type line′.the-laws 𝓤 H A W .typed r _ is′ .0)) $
         nothing ! $ use1 W (raw (Answer 𝓤 H A at-mem run .pre to-answer)) (goes-answer is) $
         calls-at ! fm (Answer 𝓤 H A at-mem run) known-answer to-answer (and-then ! (load ! (from ! (stop !)) (look ! 9 refl)) (and-then ! (load ! (from ! (stop !)) (look ! 11 refl)) (no-more !))) (λ w.
-        use1 W (later (some (λ (k : Collected). (‵ ftrue ⊛ ‵ (A′ .own k (w ∷ []))) ⊛ raw (ensured 𝓤 H A answer.ended (answer.clauses 𝓤 H A at-mem run) tt (h, (n, tt)) tt k)))) (id⊢ 𝓤 _) $ await ! tt $ pick ! (λ k.
+        use1 W (later (some (λ (k : Collected). (‵ ftrue ⊛ ‵ (K .own k (w ∷ []))) ⊛ raw (ensured 𝓤 H A answer.ended (answer.clauses 𝓤 H A at-mem run) tt (h, (n, tt)) tt k)))) (id⊢ 𝓤 _) $ await ! tt $ pick ! (λ k.
         split ! $ move ! (1 ∷ []) $ use1 W (raw (fact 𝓤 (k ≡ collected h n))) (answer-of 𝓤 H A at-mem run h n k) $ heard ! (k ≡ collected h n) (λ e₂. split ! $ drop ! $
-        peeks ! A′ (Is A′) (shows 𝓤 H A A′) k (w ∷ []) (λ is₂.
+        peeks ! K (Is K) (shows 𝓤 H A K) k (w ∷ []) (λ is₂.
         -- [what the answer owns; what the new line owns; the line's cell; what the old line owns; the open borrow; obs; auth; _4; …; _3; …; _2; …; _1; …; room for _0; …]
         land ! (from ! (stop !)) (init ! 15 refl (laws.lawful answered.the-type answered′.the-laws 𝓤 H A W .typed k _ is₂ .0)) $
         move ! (3 ∷ []) $ drop ! $ move ! (2 ∷ 1 ∷ 3 ∷ 4 ∷ 5 ∷ []) $ closes ! tt L r (v ∷ []) b o $
