@@ -4,7 +4,7 @@ import subprocess
 import sys
 import time
 
-from talk import ROOT, Talk, Wrong, commands, continuous
+from talk import ROOT, Talk, Wrong, commands, continuous, timed
 
 
 def started(waits):
@@ -37,6 +37,8 @@ def main():
             commands(talk)
             if not waits:
                 continuous(talk)
+                timed(talk, 6, 115200)
+                timed(talk, 0, 9600)
             before = ticks(program)
             time.sleep(0.5)
             if ticks(program) - before > 5:

@@ -2,6 +2,7 @@
 wrong one says what was awaited and what came."""
 import os
 import select
+import time
 
 ROOT = os.path.join(os.path.dirname(os.path.abspath(__file__)), "..", "..")
 PATIENCE = 20.0
@@ -51,7 +52,7 @@ class Talk:
             raise Wrong(f"{why}: awaited {wanted!r}, came {came!r}")
         self.exchanges += 1
 
-    def reaches(self, wanted, why, came=b"", most=400000):
+    def reaches(self, wanted, why, came=b"", most=20000):
         """Whole records, then these bytes; hands back what came after them."""
         while wanted not in came:
             more = self.come(4096)
@@ -103,3 +104,20 @@ def continuous(talk):
     talk.send(b"D\r")
     talk.awaits(RECORD, "'D'")
     talk.quiet("after 'D'")
+
+
+def timed(talk, rate, bits, seconds=1.0):
+    """Records run no faster than the line at this rate."""
+    talk.send(b"Kb%d\r" % rate)
+    talk.awaits(b"Kb%d!" % rate + END, f"'Kb{rate}'")
+    talk.send(b"C\r")
+    talk.awaits(b"!" + END + RECORD, f"'C' at rate {rate}")
+    began = time.monotonic()
+    came = b""
+    while time.monotonic() - began < seconds:
+        came += talk.come(4096)
+    slots = (time.monotonic() - began) * bits / 10
+    if not 0.2 * slots < len(came) < slots + 100:
+        raise Wrong(f"rate {rate}: in the time of {slots:.0f} slots came {len(came)} bytes")
+    talk.send(b"H\r")
+    talk.reaches(b"!" + END, f"'H' at rate {rate}", came)

@@ -2,11 +2,13 @@
 // output. A turn is a slot: its byte is written, and a received byte is taken if one has come. While
 // the lens sends, the driver does not wait for input; where nothing is left to send, it does. So that
 // it can look without waiting, whoever starts it sets O_NONBLOCK on standard input. On an input that
-// waits, slots run until idle, at most 400, before each byte is read.
+// waits, slots run until idle, at most 400, before each byte is read. Sixteen slots take at least their
+// time on a line at the port's rate.
 use libc::EAGAIN;
 use libc::EINTR;
 use libc::STDIN_FILENO;
 use libc::STDOUT_FILENO;
+use libc::types::timespec;
 use line::Line;
 use port::Port;
 ghost use mathlib.Core.Path.{_≡_};
@@ -26,6 +28,8 @@ struct Desk {
     lens: Lens,
     // no look has come back empty yet: the input may be one that waits
     waits: bool,
+    // the turns that sent since time last passed
+    since: u8,
     // more bytes may come
     open: bool,
 }
@@ -105,6 +109,48 @@ fn slots(port: Port, waits: bool) -> Turn {
     sent(port, &mut out)
 }
 
+// Waits for this time; a signal may end the wait early.
+fn pause(time: timespec) {
+    let asked = time;
+    let mut left = time;
+    libc::nanosleep(&asked, &mut left);
+}
+
+// The time of sixteen slots, ten bits each, at a rate number.
+fn sixteen_slots(rate: u8) -> timespec {
+    let nanoseconds = match rate {
+        0 => 16666667,
+        1 => 8333334,
+        2 => 4166667,
+        3 => 3333334,
+        4 => 2777778,
+        5 => 1666667,
+        6 => 1388889,
+        _ => 694445,
+    };
+    timespec {
+        tv_sec: 0,
+        tv_nsec: nanoseconds,
+    }
+}
+
+// After every sixteenth slot that sent, the time of sixteen passes.
+fn paced(desk: Desk) -> Desk {
+    let mut after = desk;
+    let since = desk.since;
+    if since < 15 {
+        after.since = since + 1;
+        return after;
+    }
+    let lens = desk.lens;
+    let port = lens.port;
+    let source = port.source;
+    let modes = source.modes;
+    pause(sixteen_slots(modes.rate));
+    after.since = 0;
+    after
+}
+
 // The desk after a look.
 fn noted(desk: Desk, found: Seen) -> Desk {
     let mut after = desk;
@@ -139,7 +185,7 @@ fn turned(desk: Desk, waiting: i32) -> Desk {
     }
     let found = look(STDIN_FILENO);
     if turn.full {
-        return noted(after, found);
+        return noted(paced(after), found);
     }
     if let Seen::Nothing = found {
         return noted(noted(after, found), look(waiting));
@@ -178,6 +224,7 @@ fn main() {
         Desk {
             lens,
             waits: true,
+            since: 0,
             open: true,
         },
         waiting,
