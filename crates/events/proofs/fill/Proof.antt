@@ -1,11 +1,9 @@
 -- `events::fill` is safe: the count is at most the part's length, which is a byte's number. Assumes nothing.
 use Prim.Native.Nat.{ℕ, _≤_}
 use native.Mathlib.Omega.{arith}
-use mathlib.Core.Path.{_≡_, sym, subst, _∙_}
+use mathlib.Core.Path.{_≡_, sym, subst}
 use borrow.Author.Needs.{needs}
-use Rattle.laws.proofs.Tests.{cond-yes, cond-no, told}
 use Rattle.port.specs.declared.Port.{Port}
-use Rattle.port.specs.Port.{validPort}
 use Rattle.fill.specs.declared.Filled.{Filled}
 use Rattle.fill.specs.Fill.{fillOf}
 use Rattle.fill.proofs.Promises.{promised}
@@ -13,10 +11,7 @@ use Rattle.events.proofs.fill.Statement.{statement}
 use Rattle.events.proofs.fill.Tie as tie
 
 counted : (p : Port) (n : ℕ) {r : Filled} → r ≡ fillOf p n → r .count ≤ n
-unfolding fillOf
-counted p n {r} e =
-    let at : (x : Filled) → fillOf p n ≡ x → x .count ≤ n → r .count ≤ n = λ x f. subst (λ (y : Filled). y .count ≤ n) (sym (e ∙ f)) in
-    told (validPort p) (λ v. at _ (cond-yes _ _ v) (promised .at-most p n)) (λ v. at _ (cond-no _ _ v) (omega arith))
+counted p n e = subst (λ (x : Filled). x .count ≤ n) (sym e) (promised .at-most p n)
 
 add-end : tie.Need-add-end
 add-end c = search needs
