@@ -354,8 +354,9 @@ pub extern "C" fn heron_owner_len(message: &[u8], checksum: bool) -> Answer
     match verdict {
         Verdict::Refused(x) => refuse(x),
         Verdict::Done => {
-            let part = nreader::owner_part(message, checksum);
-            done(part.len())
+            let contents = read.contents;
+            let owner = contents.owner;
+            done(nreader::trimmed_length(&owner))
         }
     }
 }

@@ -9,10 +9,13 @@ use Rattle.frame.specs.Message.{readOf}
 use Rattle.fixed.specs.Fixed.{fixedRead}
 use Rattle.fixed.specs.Form.{fixedForm}
 use Rattle.fixed.specs.declared.FixedRead.{FixedRead}
-use Rattle.nreader.specs.Reader.{ownerAt, ownerLength, PartIs}
+use Rattle.nreader.specs.Reader.{trimmed, ownerAt, ownerLength, PartIs}
 
 pub one-read-fixed : (m : List ℕ) (checksum : Bool) {r r′ : FixedRead} → r ≡ fixedRead (readOf fixedForm checksum m) → r′ ≡ fixedRead (readOf fixedForm checksum m) → r ≡ r′
 one-read-fixed m checksum = one-answer
+
+pub one-trimmed-length : (s : List ℕ) {r r′ : ℕ} → r ≡ trimmed s → r′ ≡ trimmed s → r ≡ r′
+one-trimmed-length s = one-answer
 
 -- two parts at one place with the same bytes; a reference's ghost name is no machine value, and nothing fixes it
 pub one-part : {m : RefT (List ℕ)} {a n : ℕ} {r r′ : RefT (List ℕ)} → PartIs m a n r → PartIs m a n r′ → (r .ptr ≡ r′ .ptr) × (r .now ≡ r′ .now)

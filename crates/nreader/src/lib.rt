@@ -143,7 +143,7 @@ pub fn read_fixed(m: &[u8], checksum: bool) -> FixedRead
 }
 
 // How long a text is without its trailing spaces.
-fn trimmed_length(s: &[u8]) -> usize
+pub fn trimmed_length(s: &[u8]) -> usize
     ensures { λ r. ⌜ r ≡ trimmed (now (s .entry)) ⌝ }
 {
     let mut n = s.len();
