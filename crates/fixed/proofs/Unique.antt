@@ -6,7 +6,7 @@ use mathlib.Core.Path.{_≡_}
 use Rattle.laws.proofs.OneAnswer.{one-answer}
 use Rattle.refusal.specs.Answer.{accepted, refused}
 use Rattle.refusal.specs.declared.Refusal.{Refusal}
-use Rattle.fixed.specs.Fixed.{kindOk, letterOk, fixedLowest, settingsLowest, fixedOf, filled, fixedRead, givenOf}
+use Rattle.fixed.specs.Fixed.{kindOk, letterOk, fixedLowest, settingsLowest, fixedOf, filled, fixedRead}
 use Rattle.fixed.specs.declared.Fixed.{Fixed}
 use Rattle.fixed.specs.declared.FixedRead.{FixedRead}
 use Rattle.fixed.specs.declared.Lens.{Lens}
@@ -33,7 +33,3 @@ one-lowest-setting s = one-answer
 pub one-fixed-from : (serial owner : List ℕ) (lens : Lens) (version : List ℕ) {f f′ : Fixed} →
     f ≡ fixedOf (filled 9 serial) (filled 31 owner) lens (filled 4 version) → f′ ≡ fixedOf (filled 9 serial) (filled 31 owner) lens (filled 4 version) → f ≡ f′
 one-fixed-from serial owner lens version = one-answer
-
-pub one-fixed-of : (serial owner : List ℕ) (lens : Lens) (version : List ℕ) {r r′ : FixedRead} →
-    r ≡ fixedRead (givenOf (fixedOf serial owner lens version)) → r′ ≡ fixedRead (givenOf (fixedOf serial owner lens version)) → r ≡ r′
-one-fixed-of serial owner lens version = one-answer

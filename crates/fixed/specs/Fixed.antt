@@ -1,12 +1,10 @@
 -- What may be set: document 01's items and their ranges. The answer is the lowest item out of range, 0 where there is none.
 use Prim.Native.Nat.{ℕ}
-use mathlib.Core.Bool.{Bool, true, _&&_, _||_}
+use mathlib.Core.Bool.{Bool, true, _&&_, _||_, cond}
 use mathlib.Core.List.{List, [], _∷_}
 use lib.Dec.{leb, eqb}
 use lib.ListN.{length, replicate}
-use Rattle.laws.specs.Over.{over}
-use Rattle.refusal.specs.Answer.{Answer, accepted, refused, unless}
-use Rattle.refusal.specs.declared.Refusal.the-variants.{Setting}
+use Rattle.refusal.specs.Answer.{Answer, accepted, refused}
 use Rattle.refusal.specs.declared.Verdict.the-variants.{Done, Refused}
 use Rattle.codec.specs.Codec.{failing, first, printable}
 use Rattle.fixed.specs.declared.Fixed.{Fixed}
@@ -72,9 +70,9 @@ fixedOf serial owner l version = record {
   version = version;
 }
 
--- a text in memory of n bytes, zero at first
+-- a text as an item of n bytes: zeros where it has another length
 abbrev pub filled : ℕ → List ℕ → List ℕ
-filled n s = over (replicate n 0) 0 s
+filled n s = cond (eqb (length s) n) s (replicate n 0)
 
 -- ---- what hands fixed data back: the items, or a refusal beside items of zeros
 
@@ -93,7 +91,3 @@ noFixed = record {
 abbrev pub fixedRead : Answer Fixed → FixedRead
 fixedRead (accepted f) = record { verdict = Done; contents = f }
 fixedRead (refused x) = record { verdict = Refused x; contents = noFixed }
-
--- items handed in one by one: 8 with the lowest item out of range, else the fixed data
-unfoldable pub givenOf : Fixed → Answer Fixed
-givenOf f = unless (eqb (fixedLowest f) 0) (Setting (fixedLowest f)) (accepted f)

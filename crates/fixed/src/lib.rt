@@ -1,9 +1,12 @@
 // The fixed data and the settings by value: their items, and what may be sent.
 use refusal::Refusal;
 use refusal::Verdict;
+ghost use mathlib.Core.Bool.{cond};
 ghost use mathlib.Core.Path.{_≡_};
+ghost use lib.Dec.{eqb};
+ghost use lib.ListN.{length};
 ghost use Rattle.refusal.specs.Answer.{accepted, refused};
-ghost use Rattle.fixed.specs.Fixed.{kindOk, letterOk, blurOk, textOk, lensLowest, fixedLowest, settingsLowest, fixedOf, filled, fixedRead, givenOf};
+ghost use Rattle.fixed.specs.Fixed.{kindOk, letterOk, blurOk, textOk, lensLowest, fixedLowest, settingsLowest, fixedOf, filled, fixedRead};
 
 // Items 1 to 8: what the N message carries.
 pub struct Fixed {
@@ -138,33 +141,18 @@ fn lowest_of_lens(l: Lens) -> u32
     0
 }
 
-// The lowest of items 1 to 8 that is out of range, or 0; a text of another length is out of range.
-fn lowest_given(serial: &[u8], owner: &[u8], lens: Lens, version: &[u8]) -> u32
-    ensures { λ i. ⌜ i ≡ fixedLowest (fixedOf (now (serial .entry)) (now (owner .entry)) lens (now (version .entry))) ⌝ }
-{
-    if !is_item(serial, 9) {
-        return 1;
-    }
-    if !is_item(owner, 31) {
-        return 2;
-    }
-    let lowest = lowest_of_lens(lens);
-    if lowest != 0 {
-        return lowest;
-    }
-    if !is_item(version, 4) {
-        return 8;
-    }
-    0
-}
-
 // The lowest item out of range, or 0 where the fixed data may be sent.
 pub fn lowest_item(f: Fixed) -> u32
     ensures { λ i. ⌜ i ≡ fixedLowest f ⌝ }
 {
     let serial = f.serial;
+    if !is_item(&serial, 9) {
+        return 1;
+    }
     let owner = f.owner;
-    let version = f.version;
+    if !is_item(&owner, 31) {
+        return 2;
+    }
     let lens = Lens {
         kind: f.kind,
         focal: f.focal,
@@ -172,7 +160,15 @@ pub fn lowest_item(f: Fixed) -> u32
         letter: f.letter,
         transmission: f.transmission,
     };
-    lowest_given(&serial, &owner, lens, &version)
+    let lowest = lowest_of_lens(lens);
+    if lowest != 0 {
+        return lowest;
+    }
+    let version = f.version;
+    if !is_item(&version, 4) {
+        return 8;
+    }
+    0
 }
 
 // The lowest item out of range, or 0 where a port may start with these settings.
@@ -199,16 +195,26 @@ pub fn lowest_setting(s: Settings) -> u32
     0
 }
 
-// The items put together. A text that is longer than its item is left out; a shorter one has zeros behind it.
+// Writes a text over the whole of an item; one of another length is not written.
+fn put_item(item: &mut [u8], text: &[u8])
+    ensures { λ _. ⌜ now (item .exit) ≡ cond (eqb (length (now (text .entry))) (length (now (item .entry)))) (now (text .entry)) (now (item .entry)) ⌝ }
+{
+    if text.len() != item.len() {
+        return;
+    }
+    lent::put_text(item, 0, text);
+}
+
+// The items put together. A text of another length is left as zeros, which no text holds, so that it stays out of range.
 pub fn fixed_from(serial: &[u8], owner: &[u8], lens: Lens, version: &[u8]) -> Fixed
     ensures { λ f. ⌜ f ≡ fixedOf (filled 9 (now (serial .entry))) (filled 31 (now (owner .entry))) lens (filled 4 (now (version .entry))) ⌝ }
 {
     let mut nine = [0; 9];
-    lent::put_text(&mut nine, 0, serial);
+    put_item(&mut nine, serial);
     let mut thirty_one = [0; 31];
-    lent::put_text(&mut thirty_one, 0, owner);
+    put_item(&mut thirty_one, owner);
     let mut four = [0; 4];
-    lent::put_text(&mut four, 0, version);
+    put_item(&mut four, version);
     Fixed {
         serial: nine,
         owner: thirty_one,
@@ -219,15 +225,4 @@ pub fn fixed_from(serial: &[u8], owner: &[u8], lens: Lens, version: &[u8]) -> Fi
         transmission: lens.transmission,
         version: four,
     }
-}
-
-// The fixed data of items that are handed in one by one: 8 with the lowest item out of range, texts of another length too.
-pub fn fixed_of(serial: &[u8], owner: &[u8], lens: Lens, version: &[u8]) -> FixedRead
-    ensures { λ r. ⌜ r ≡ fixedRead (givenOf (fixedOf (now (serial .entry)) (now (owner .entry)) lens (now (version .entry)))) ⌝ }
-{
-    let lowest = lowest_given(serial, owner, lens, version);
-    if lowest != 0 {
-        return refused_fixed(Refusal::Setting(lowest));
-    }
-    accepted_fixed(fixed_from(serial, owner, lens, version))
 }

@@ -10,17 +10,16 @@ use lib.ListN.{length}
 use Rattle.laws.specs.Gives.{Gives}
 use Rattle.laws.specs.Over.{over}
 use Rattle.laws.proofs.OverLaws.{over-short}
-use Rattle.laws.proofs.Tests.{told, cond-yes, cond-no, and-left}
+use Rattle.laws.proofs.Tests.{told}
 use Rattle.refusal.specs.Answer.{Answer, accepted, refused, unless}
 use Rattle.refusal.specs.declared.Refusal.{Refusal}
 use Rattle.refusal.specs.declared.Refusal.the-variants.{Room}
 use Rattle.refusal.specs.declared.Verdict.{Verdict}
 use Rattle.refusal.specs.declared.Verdict.the-variants.{Done, Refused}
-use Rattle.codec.specs.Codec.{Codec, printable}
-use Rattle.codec.proofs.Exact.{first-zero, holds}
+use Rattle.codec.specs.Codec.{Codec}
 use Rattle.frame.specs.Message.{afterwards, writeOf, wroteOf, leftBy}
 use Rattle.frame.specs.declared.Wrote.{Wrote}
-use Rattle.record.specs.Record.{recordLowest, recordRead}
+use Rattle.record.specs.Record.{recordRead}
 use Rattle.record.specs.declared.Record.{Record}
 use Rattle.record.specs.declared.RecordRead.{RecordRead}
 use Rattle.fixed.specs.Fixed.{fixedRead}
@@ -28,16 +27,10 @@ use Rattle.fixed.specs.declared.Fixed.{Fixed}
 use Rattle.fixed.specs.declared.FixedRead.{FixedRead}
 use Rattle.hourheron.specs.Host.{answerOf, answerTo, Writes, laidOf, laidBy, Lays, askedOf}
 use Rattle.hourheron.specs.declared.Answer as host
+use Rattle.hourheron.proofs.Given.{StandsFor}
 
 pub never : {A C : Type 0} {a : A} {x : Refusal} → accepted a ≡ refused x → C
 never h = absurd (let z : _≡_ {A = ℕ} 0 1 = cc in omega arith)
-
--- a record that may be sent has a serial of nine bytes
-pub serial-long : (r : Record) → recordLowest r ≡ 0 → length (r .serial) ≡ 9
-unfolding recordLowest
-serial-long r z =
-    let s = first-zero _ _ z in
-    eqb-true (length (r .serial)) 9 (and-left (eqb (length (r .serial)) 9) (printable (r .serial)) (holds _ 11 (s .1)))
 
 -- ---- what a verdict beside contents answers
 
@@ -66,35 +59,24 @@ module _ {A : Type 0} (v : Verdict) (k : Answer A) {a : Answer A} (e : afterward
   unfolding afterwards
   was-refused x h = sym e ∙ ap (λ (w : Verdict). afterwards w k) h
 
--- ---- a writer: contents handed in one by one are refused, or are those that were given
+-- ---- a writer: of contents that stand for those handed in
 
 back-wrote : (b : Answer ℕ) → answerTo (wroteOf b) ≡ answerOf b
 back-wrote (accepted n) = refl
 back-wrote (refused x) = refl
 
-module _ {A : Type 0} (form : Codec A) (low : ℕ → Refusal) (checksum : Bool) (a : A) (d : List ℕ) {i : ℕ} (lowest : form .lowest a ≡ i) {b : Answer A} (given : unless (eqb i 0) (low i) (accepted a) ≡ b) where
-  pub writes-none : {r : host.Answer} (x : Refusal) → b ≡ refused x → r ≡ answerOf (refused x) → Writes form low checksum a d r d
-  unfolding writeOf leftBy unless
-  writes-none x h e =
-      told (eqb i 0)
-      (λ t. never (sym (cond-yes _ _ t) ∙ given ∙ h))
-      (λ t.
-      let y : _≡_ {A = Answer A} (refused (low i)) (refused x) = sym (cond-no (accepted a) _ t) ∙ given ∙ h in
-      let z : low i ≡ x = cc in
-      record { answers = e ∙ rw (lowest, t, z); leaves = rw (lowest, t) })
+module _ {A : Type 0} (form : Codec A) (low : ℕ → Refusal) (checksum : Bool) {f a : A} (d : List ℕ) (stands : StandsFor form f a) where
+  left-alike : leftBy form checksum f d ≡ leftBy form checksum a d
+  unfolding leftBy
+  left-alike =
+      told (eqb (form .lowest a) 0) (λ y. ap (λ (g : A). leftBy form checksum g d) (stands .same (eqb-true _ _ y))) (λ n. rw (stands .alike, n))
 
-  same : (f : A) → b ≡ accepted f → f ≡ a
-  unfolding unless
-  same f h =
-      told (eqb i 0)
-      (λ t. let y : accepted a ≡ accepted f = sym (cond-yes _ (refused (low i)) t) ∙ given ∙ h in cc)
-      (λ t. never (sym (sym (cond-no (accepted a) _ t) ∙ given ∙ h)))
-
-  pub writes-given : {r : host.Answer} {w : Wrote} {after : List ℕ} (f : A) → b ≡ accepted f →
-      Gives (wroteOf (writeOf form low checksum f d)) (leftBy form checksum f d) w after → r ≡ answerTo w → Writes form low checksum a d r after
-  writes-given f h p e = record {
-    answers = e ∙ ap answerTo (p .answers) ∙ back-wrote (writeOf form low checksum f d) ∙ ap (λ (g : A). answerOf (writeOf form low checksum g d)) (same f h);
-    leaves = p .leaves ∙ ap (λ (g : A). leftBy form checksum g d) (same f h);
+  pub writes-given : {r : host.Answer} {w : Wrote} {after : List ℕ} → Gives (wroteOf (writeOf form low checksum f d)) (leftBy form checksum f d) w after →
+      r ≡ answerTo w → Writes form low checksum a d r after
+  unfolding writeOf
+  writes-given p e = record {
+    answers = e ∙ ap answerTo (p .answers) ∙ back-wrote (writeOf form low checksum f d) ∙ rw (stands .alike);
+    leaves = p .leaves ∙ left-alike;
   }
 
 -- ---- a reader: refused, or short of room, or the contents

@@ -1,3 +1,4 @@
+pub mod Given
 pub mod Answers
 pub mod Promises
 pub mod Unique

@@ -28,7 +28,8 @@ use Rattle.layout.specs.Layout.{recordBytes, recordWidth, fixedBytes, fixedWidt
 use Rattle.layout.proofs.Laws.{record-long, fixed-long}
 use Rattle.hourheron.specs.Host.{laidOf, laidBy}
 use Rattle.hourheron.specs.Promises.{RefusedSame, LaysContents, Promised}
-use Rattle.hourheron.proofs.Answers.{never, serial-long}
+use Rattle.hourheron.proofs.Given.{serial-long}
+use Rattle.hourheron.proofs.Answers.{never}
 
 module _ {A : Type 0} (bytes : A → List ℕ) (width : ℕ) (out : List ℕ) where
   same : (a : Answer A) (x : Refusal) → ((f : A) → a ≡ accepted f → length (bytes f) ≡ width) → laidOf width a out ≡ refused x → laidBy bytes a out ≡ out

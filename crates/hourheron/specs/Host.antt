@@ -2,7 +2,7 @@
 use Prim.Native.Nat.{ℕ, _+_, _*_}
 use mathlib.Core.Bool.{Bool}
 use mathlib.Core.List.{List}
-use lib.Dec.{leb, eqb}
+use lib.Dec.{leb}
 use lib.IntN.{ℤ, pos}
 use lib.ListN.{length}
 use Rattle.laws.specs.Gives.{Gives}
@@ -10,13 +10,12 @@ use Rattle.laws.specs.Over.{over}
 use Rattle.refusal.specs.Refusal.{numberOf, valueOf}
 use Rattle.refusal.specs.Answer.{Answer, accepted, refused, unless}
 use Rattle.refusal.specs.declared.Refusal.{Refusal}
-use Rattle.refusal.specs.declared.Refusal.the-variants.{Field, Room}
+use Rattle.refusal.specs.declared.Refusal.the-variants.{Room}
 use Rattle.codec.specs.Codec.{Codec}
 use Rattle.frame.specs.Frame.{sumOf}
 use Rattle.frame.specs.Message.{writeOf, leftBy}
 use Rattle.frame.specs.declared.Wrote.{Wrote}
 use Rattle.frame.specs.declared.Wrote.the-variants as wrote
-use Rattle.record.specs.Record.{recordLowest}
 use Rattle.record.specs.declared.Figures.{Figures}
 use Rattle.record.specs.declared.Record.{Record}
 use Rattle.fixed.specs.declared.Fixed.{Fixed}
@@ -83,10 +82,6 @@ fixedFrom serial owner kind focal maximum letter transmission version = record {
 
 abbrev pub withSerial : Figures → List ℕ → Record
 withSerial f serial = record { figures = f; serial = serial }
-
--- a record handed in so: 1 with the lowest field out of range, else the record
-unfoldable pub givenOf : Record → Answer Record
-givenOf r = unless (eqb (recordLowest r) 0) (Field (recordLowest r)) (accepted r)
 
 -- ---- a reader: refused as the message is; then 2 with the bytes that the contents take; else their count
 

@@ -16,14 +16,14 @@ ghost use Rattle.refusal.specs.Answer.{accepted, refused};
 ghost use Rattle.refusal.specs.declared.Refusal.the-variants.{Field, Setting};
 ghost use Rattle.frame.specs.Message.{afterwards, readOf};
 ghost use Rattle.record.specs.Forms.{textForm, packedForm};
-ghost use Rattle.record.specs.Record.{recordLowest, recordRead};
+ghost use Rattle.serial.specs.Serial.{nineOf};
 ghost use Rattle.fixed.specs.Form.{fixedForm};
 ghost use Rattle.nreader.specs.Reader.{ownerAt, ownerLength};
 ghost use Rattle.laws.specs.Gives.{Gives};
 ghost use Rattle.collector.specs.Collect.{lineAfter, collected};
 ghost use Rattle.units.specs.Units.{conversion};
 ghost use Rattle.layout.specs.Layout.{recordBytes, recordWidth, fixedBytes, fixedWidth};
-ghost use Rattle.hourheron.specs.Host.{answerOf, answerTo, conversionOf, checksumOf, Writes, recordFrom, fixedFrom, withSerial, givenOf, Lays, askedOf};
+ghost use Rattle.hourheron.specs.Host.{answerOf, answerTo, conversionOf, checksumOf, Writes, recordFrom, fixedFrom, withSerial, Lays, askedOf};
 
 // The refusal's number, or 0; and the value that comes with it, or the count.
 #[repr(C)]
@@ -101,64 +101,30 @@ pub extern "C" fn heron_checksum(bytes: &[u8]) -> Answer
 
 // ---- the writers of a record
 
-// The lowest field out of range, or 0; a serial of another length than nine is out of range.
-fn lowest_given(figures: Figures, serial: &[u8]) -> u32
-    ensures { λ i. ⌜ i ≡ recordLowest (withSerial figures (now (serial .entry))) ⌝ }
+// The record of fields and a serial that are handed in one by one. A serial of another length is left as zeros, which no
+// text holds: the writers refuse it as field 12.
+fn record_given(figures: Figures, serial: &[u8]) -> Record
+    ensures { λ r. ⌜ r ≡ withSerial figures (nineOf (now (serial .entry))) ⌝ }
 {
-    let lowest = record::lowest_figure(figures, 9999999, 999);
-    if lowest != 0 {
-        return lowest;
-    }
-    if serial.len() != 9 {
-        return 12;
-    }
-    if !codec::is_text(serial) {
-        return 12;
-    }
-    0
-}
-
-// The record of fields and a serial that are handed in one by one: 1 with the lowest field out of range.
-fn record_given(figures: Figures, serial: &[u8]) -> RecordRead
-    ensures { λ r. ⌜ r ≡ recordRead (givenOf (withSerial figures (now (serial .entry)))) ⌝ }
-{
-    let lowest = lowest_given(figures, serial);
-    if lowest != 0 {
-        return record::refused_record(Refusal::Field(lowest));
-    }
     let nine = serial::nine_of(serial);
-    record::accepted_record(Record {
+    Record {
         figures,
         serial: nine,
-    })
+    }
 }
 
 fn send_text(figures: Figures, serial: &[u8], checksum: bool, out: &mut [u8]) -> Answer
     ensures { λ r. ⌜ Writes textForm Field checksum (withSerial figures (now (serial .entry))) (now (out .entry)) r (now (out .exit)) ⌝ }
 {
-    let given = record_given(figures, serial);
-    let verdict = given.verdict;
-    match verdict {
-        Verdict::Refused(x) => refuse(x),
-        Verdict::Done => {
-            let contents = given.contents;
-            answer_to(text::write_text(contents, checksum, out))
-        }
-    }
+    let record = record_given(figures, serial);
+    answer_to(text::write_text(record, checksum, out))
 }
 
 fn send_packed(figures: Figures, serial: &[u8], checksum: bool, out: &mut [u8]) -> Answer
     ensures { λ r. ⌜ Writes packedForm Field checksum (withSerial figures (now (serial .entry))) (now (out .entry)) r (now (out .exit)) ⌝ }
 {
-    let given = record_given(figures, serial);
-    let verdict = given.verdict;
-    match verdict {
-        Verdict::Refused(x) => refuse(x),
-        Verdict::Done => {
-            let contents = given.contents;
-            answer_to(packed::write_packed(contents, checksum, out))
-        }
-    }
+    let record = record_given(figures, serial);
+    answer_to(packed::write_packed(record, checksum, out))
 }
 
 // Writes a record as text.
@@ -294,15 +260,8 @@ pub extern "C" fn heron_write_fixed(
         letter,
         transmission,
     };
-    let given = fixed::fixed_of(serial, owner, lens, version);
-    let verdict = given.verdict;
-    match verdict {
-        Verdict::Refused(x) => refuse(x),
-        Verdict::Done => {
-            let contents = given.contents;
-            answer_to(nwriter::write_fixed(contents, checksum, out))
-        }
-    }
+    let fixed = fixed::fixed_from(serial, owner, lens, version);
+    answer_to(nwriter::write_fixed(fixed, checksum, out))
 }
 
 // Puts what the reader answered into the lent memory: 51 bytes.

@@ -25,10 +25,13 @@ pub fn is_serial(tag: u8, text: &[u8]) -> bool
     codec::is_text(text)
 }
 
-// Nine bytes by value; zeros where s does not fit.
+// Nine bytes by value; zeros where s has another length.
 pub fn nine_of(s: &[u8]) -> [u8; 9]
     ensures { λ r. ⌜ r ≡ nineOf (now (s .entry)) ⌝ }
 {
+    if s.len() != 9 {
+        return [0; 9];
+    }
     let mut nine = [0; 9];
     lent::put_text(&mut nine, 0, s);
     nine

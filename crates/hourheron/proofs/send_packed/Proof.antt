@@ -1,35 +1,15 @@
--- `hourheron::send_packed` meets its contract: a record that may be sent is the one that was given. Assumes nothing.
-use mathlib.Core.Path.{_≡_, refl}
-use Rattle.refusal.specs.Answer.{accepted}
+-- `hourheron::send_packed` meets its contract: the record that is written stands for the one handed in. Assumes nothing.
 use Rattle.refusal.specs.declared.Refusal.the-variants.{Field}
-use Rattle.frame.specs.Message.{afterwards}
 use Rattle.record.specs.Forms.{packedForm}
-use Rattle.record.specs.declared.Record.{Record}
 use Rattle.record.proofs.Exact.{packed-lowest}
-use Rattle.hourheron.specs.Host.{withSerial, givenOf}
-use Rattle.hourheron.proofs.Answers.{record-told, was-done, was-refused, writes-none, writes-given}
+use Rattle.hourheron.proofs.Given.{stands-record}
+use Rattle.hourheron.proofs.Answers.{writes-given}
 use borrow.Author.Needs.{needs}
 use Rattle.hourheron.proofs.send_packed.Statement.{statement}
 use Rattle.hourheron.proofs.send_packed.Tie as tie
 
--- the record that is handed in, and what is answered of it
-abbrev handed : tie.Start → Record
-handed b = withSerial (b .args .figures) (b .args .serial .now)
-
-given : (c : tie.After-record-given) → afterwards (c .record-given .result .verdict) (accepted (c .record-given .result .contents)) ≡ givenOf (handed (c .before .before .before))
-given c = record-told (givenOf (handed (c .before .before .before))) (c .record-given .ensures)
-
 record-given-requires : tie.Need-record-given-requires
 record-given-requires c κs = search needs
-
-enum-known-verdict : tie.Need-enum-known-verdict
-enum-known-verdict c = search needs
-
-refuse-requires : tie.Need-refuse-requires
-refuse-requires c κs = search needs
-
-enum-told : tie.Need-enum-told
-enum-told c = search needs
 
 write-packed-requires : tie.Need-write-packed-requires
 write-packed-requires c κs = search needs
@@ -37,41 +17,15 @@ write-packed-requires c κs = search needs
 answer-to-requires : tie.Need-answer-to-requires
 answer-to-requires c κs = search needs
 
-returns : tie.Need-returns
-unfolding givenOf
-returns c =
-    let v = c .before .before in
-    let g = v .before .before in
-    let b = g .before .before .before in
-    writes-none packedForm Field (b .args .checksum) (handed b) (b .args .out .now) (packed-lowest (handed b)) refl (v .verdict .given .0 .0)
-    (was-refused _ _ (given g) (v .verdict .given .0 .0) (v .verdict .given .1))
-    (c .refuse .ensures)
-
 same-length : tie.Need-same-length
 same-length c = search needs
 
-returns-2 : tie.Need-returns-2
-unfolding givenOf
-returns-2 c =
+returns : tie.Need-returns
+returns c =
     let w = c .before .before .before in
-    let t = w .before .before .before in
-    let g = t .before .before in
-    let b = g .before .before .before in
-    writes-given packedForm Field (b .args .checksum) (handed b) (b .args .out .now) (packed-lowest (handed b)) refl (g .record-given .result .contents)
-    (was-done _ _ (given g) (t .enum-told .given .1))
-    (w .write-packed .ensures)
-    (c .answer-to .ensures)
+    let g = w .before .before in
+    let a = g .before .before .before .args in
+    writes-given packedForm Field (a .checksum) (a .out .now) (stands-record packedForm packed-lowest (a .figures) (a .serial .now) (g .record-given .ensures)) (w .write-packed .ensures) (c .answer-to .ensures)
 
 pub send-packed-spec : {M : Type 1} → statement M
-send-packed-spec =
-    tie.close
-    (tie.spec
-    record-given-requires
-    enum-known-verdict
-    refuse-requires
-    enum-told
-    write-packed-requires
-    answer-to-requires
-    returns
-    same-length
-    returns-2)
+send-packed-spec = tie.close (tie.spec record-given-requires write-packed-requires answer-to-requires same-length returns)
