@@ -100,11 +100,16 @@ fn is_distance(field: u32) -> bool
 fn in_range(field: u32, number: i32, unit: u8) -> bool
     ensures { λ r. ⌜ r ≡ inRange field number unit ⌝ }
 {
-    let n = sign::size_of(number);
     if field == 10 {
-        return n <= most_in(unit);
+        return sign::size_of(number) <= most_in(unit);
     }
-    is_distance(field) & (!sign::is_below(number) & (n <= top_in(unit)))
+    if !is_distance(field) {
+        return false;
+    }
+    if sign::is_below(number) {
+        return false;
+    }
+    sign::size_of(number) <= top_in(unit)
 }
 
 // A number of a field in the wanted unit.
