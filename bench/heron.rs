@@ -1,43 +1,12 @@
 //! libhourheron.a through its C interface, on slices. Each `unsafe` hands over slices that live through the call, with their
 //! own lengths.
 
+#[path = "../tests/host/exports.rs"]
+mod exports;
+
+pub use self::exports::{Answer, Converted};
+use self::exports::*;
 use crate::plain::{Fields, Fixed};
-
-#[repr(C)]
-pub struct Answer {
-    pub number: u32,
-    pub value: u64,
-}
-
-#[repr(C)]
-pub struct Converted {
-    pub number: u32,
-    pub field: u32,
-    pub value: i32,
-}
-
-#[rustfmt::skip]
-extern "C" {
-    fn heron_write_text(
-        focus: u32, aperture: u32, stop: u32, tenth: u32, focal: u32, hyperfocal: u32, near: u32, far: u32, view: u32,
-        pupil: i32, zoom: u32, serial: *const u8, serial_len: usize, checksum: bool, out: *mut u8, out_len: usize,
-    ) -> Answer;
-    fn heron_write_packed(
-        focus: u32, aperture: u32, stop: u32, tenth: u32, focal: u32, hyperfocal: u32, near: u32, far: u32, view: u32,
-        pupil: i32, zoom: u32, serial: *const u8, serial_len: usize, checksum: bool, out: *mut u8, out_len: usize,
-    ) -> Answer;
-    fn heron_read_text(message: *const u8, len: usize, checksum: bool, out: *mut u8, out_len: usize) -> Answer;
-    fn heron_read_packed(message: *const u8, len: usize, checksum: bool, out: *mut u8, out_len: usize) -> Answer;
-    fn heron_write_fixed(
-        serial: *const u8, serial_len: usize, owner: *const u8, owner_len: usize, kind: u8, focal: u32, maximum: u32,
-        letter: u8, transmission: u32, version: *const u8, version_len: usize, checksum: bool, out: *mut u8, out_len: usize,
-    ) -> Answer;
-    fn heron_read_fixed(message: *const u8, len: usize, checksum: bool, out: *mut u8, out_len: usize) -> Answer;
-    fn heron_owner_start(message: *const u8, len: usize, checksum: bool) -> Answer;
-    fn heron_owner_len(message: *const u8, len: usize, checksum: bool) -> Answer;
-    fn heron_convert(field: u32, number: i32, unit: u8, wanted: u8) -> Converted;
-    fn heron_checksum(bytes: *const u8, len: usize) -> Answer;
-}
 
 macro_rules! record_writer {
     ($name:ident, $entry:ident) => {

@@ -1,22 +1,12 @@
 //! libhourheron.a through its C interface, wrapped in safe functions that have the reference's names and shapes.
 //! An empty slice is handed over as a null pointer with length 0.
 
+#[path = "exports.rs"]
+mod exports;
+
+pub use self::exports::Converted;
+use self::exports::*;
 use crate::lens::{Fixed, Record, Refusal};
-
-#[repr(C)]
-struct Answer {
-    number: u32,
-    value: u64,
-}
-
-/// As the library answers it, every part kept.
-#[repr(C)]
-#[derive(Debug, Clone, Copy, PartialEq, Eq)]
-pub struct Converted {
-    pub number: u32,
-    pub field: u32,
-    pub value: i32,
-}
 
 #[rustfmt::skip]
 type WriteRecord = unsafe extern "C" fn(
@@ -24,29 +14,6 @@ type WriteRecord = unsafe extern "C" fn(
 ) -> Answer;
 type ReadMessage = unsafe extern "C" fn(*const u8, usize, bool, *mut u8, usize) -> Answer;
 type AskMessage = unsafe extern "C" fn(*const u8, usize, bool) -> Answer;
-
-#[rustfmt::skip]
-extern "C" {
-    fn heron_write_text(
-        focus: u32, aperture: u32, stop: u32, tenth: u32, focal: u32, hyperfocal: u32, near: u32, far: u32, view: u32,
-        pupil: i32, zoom: u32, serial: *const u8, serial_len: usize, checksum: bool, out: *mut u8, out_len: usize,
-    ) -> Answer;
-    fn heron_write_packed(
-        focus: u32, aperture: u32, stop: u32, tenth: u32, focal: u32, hyperfocal: u32, near: u32, far: u32, view: u32,
-        pupil: i32, zoom: u32, serial: *const u8, serial_len: usize, checksum: bool, out: *mut u8, out_len: usize,
-    ) -> Answer;
-    fn heron_read_text(message: *const u8, len: usize, checksum: bool, out: *mut u8, out_len: usize) -> Answer;
-    fn heron_read_packed(message: *const u8, len: usize, checksum: bool, out: *mut u8, out_len: usize) -> Answer;
-    fn heron_write_fixed(
-        serial: *const u8, serial_len: usize, owner: *const u8, owner_len: usize, kind: u8, focal: u32, maximum: u32,
-        letter: u8, transmission: u32, version: *const u8, version_len: usize, checksum: bool, out: *mut u8, out_len: usize,
-    ) -> Answer;
-    fn heron_read_fixed(message: *const u8, len: usize, checksum: bool, out: *mut u8, out_len: usize) -> Answer;
-    fn heron_owner_start(message: *const u8, len: usize, checksum: bool) -> Answer;
-    fn heron_owner_len(message: *const u8, len: usize, checksum: bool) -> Answer;
-    fn heron_convert(field: u32, number: i32, unit: u8, wanted: u8) -> Converted;
-    fn heron_checksum(bytes: *const u8, len: usize) -> Answer;
-}
 
 fn start(bytes: &[u8]) -> *const u8 {
     if bytes.is_empty() {

@@ -1,3 +1,4 @@
+-- `sign::is_below` meets its contract: the comparison with 0, on signed values. Assumes nothing.
 use mathlib.Core.Path.{_≡_, refl, ap, _∙_}
 use mathlib.Core.Bool.{Bool}
 use lib.IntN.{ℤ, pos, negsuc}
