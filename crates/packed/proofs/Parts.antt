@@ -1,12 +1,12 @@
 -- What a packed record's form finds, in terms of the parts that the code reads. Assumes nothing.
-use Prim.Native.Nat.{ℕ, zero, suc, _+_, _≤_, _<_}
+use Prim.Native.Nat.{ℕ, _+_, _≤_, _<_}
 use mathlib.Core.List.{List, [], _∷_}
 use mathlib.Core.Bool.{true, false}
 use mathlib.Core.Path.{_≡_, refl, sym, ap, _∙_}
 use native.Mathlib.Omega.{arith}
 use borrow.Author.Tests.{eq-eqb, ne-eqb}
-use lib.ListN.{length, take, drop, getD, length-drop}
-use lib.Seq.{take-all, take-take, take-add, drop-drop, drop-at, drop-cons, getD-drop, length-take-le, drop-length}
+use lib.ListN.{length, take, drop, getD, length-take, length-drop}
+use lib.Seq.{take-all, take-take, take-add, drop-drop, drop-at, getD-drop, length-take-le}
 use Rattle.laws.proofs.Tests.{told}
 use Rattle.digits.specs.Digits.{readGroups}
 use Rattle.digits.specs.declared.Field.{Field}
@@ -20,7 +20,9 @@ use Rattle.record.specs.Record.{topDistance}
 use Rattle.record.specs.Forms.{Front, Middle, Back, frontPacked, middlePacked, backPacked, serial, figuresOf, recordOf, packedForm}
 use Rattle.record.specs.declared.Figures.{Figures}
 use Rattle.record.specs.declared.Record.{Record}
-use Rattle.packed.specs.Packed.{readFocus, readSerial, fourSays, threeSays, figuresSays}
+use Rattle.serial.specs.Serial.{isSerial, nineOf}
+use Rattle.serial.proofs.Field.{serial-at, nine-is}
+use Rattle.packed.specs.Packed.{readFocus, fourSays, threeSays, figuresSays}
 use Rattle.packed.specs.declared.Four.{Four}
 use Rattle.packed.specs.declared.Three.{Three}
 use Rattle.packed.specs.declared.Gathered.{Gathered}
@@ -64,10 +66,6 @@ tail n k s l = take-all k (drop n s) (simp length-drop (omega arith))
 focus-read : (s : List ℕ) → fieldSays 1 (readFocus s) ≡ tagged 100 1 (number 1 64 64 4 topDistance) .parse s
 unfolding readFocus fieldSays
 focus-read s = told (begins 100 s) (λ y. rw y) (λ n. rw n)
-
-serial-read : (s : List ℕ) → serial .parse s ≡ passed (readSerial s) 12 (drop 1 s)
-unfolding serial readSerial passed
-serial-read s = told (begins 83 s) (λ y. rw y) (λ n. rw n)
 
 -- ---- the groups, as the code takes them
 
@@ -136,12 +134,16 @@ pub figures-in : (s : List ℕ) (g : Gathered) (x y : Four) (z : Three) → figu
     fourSays x ≡ frontPacked .parse (take 9 s) → fourSays y ≡ middlePacked .parse (take 14 (drop 9 s)) → threeSays z ≡ backPacked .parse (take 6 (drop 23 s)) → figuresSays g ≡ figuresIn s
 figures-in s g x y z e p q r = e ∙ rw (p, q, r)
 
-record-parts : (s : List ℕ) → length s ≡ 39 → packedForm .parse s ≡ mapped made (both (figuresIn s) (passed (readSerial (take 10 (drop 29 s))) 12 (take 9 (drop 30 s))))
+-- what the serial's bytes hold
+abbrev serialIn : List ℕ → Got (List ℕ)
+serialIn s = passed (isSerial (getD s 29 0) (take 9 (drop 30 s))) 12 (take 9 (drop 30 s))
+
+record-parts : (s : List ℕ) → length s ≡ 39 → packedForm .parse s ≡ mapped made (both (figuresIn s) (serialIn s))
 unfolding packedForm
 record-parts s l =
     ap (mapped recordOf) (four-parts frontPacked middlePacked backPacked serial 9 14 6 front-width middle-width back-width s (omega arith))
     ∙ remade _ (serial .parse (drop 29 s))
-    ∙ ap (λ (q : Got (List ℕ)). mapped made (both (figuresIn s) q)) (rw (tail 29 10 s l, tail 30 9 s l) (serial-read (drop 29 s) ∙ ap (passed (readSerial (drop 29 s)) 12) (drop-drop 1 29 s)))
+    ∙ ap (λ (q : Got (List ℕ)). mapped made (both (figuresIn s) q)) (ap (serial .parse) (sym (tail 29 10 s l)) ∙ serial-at s 29 (omega arith))
 
 module _ (s : List ℕ) (l : length s ≡ 39) where
   -- a wrong field among the first eleven
@@ -149,21 +151,13 @@ module _ (s : List ℕ) (l : length s ≡ 39) where
   unfolding mapped
   figures-wrong i e = record-parts s l ∙ ap (mapped made) (both-bad _ e)
 
-  pub serial-wrong : (f : Figures) → figuresIn s ≡ got f → readSerial (take 10 (drop 29 s)) ≡ false → packedForm .parse s ≡ bad 12
-  unfolding mapped passed
-  serial-wrong f e n = record-parts s l ∙ ap (mapped made) (both-then e (rw n))
+  module _ (f : Figures) (e : figuresIn s ≡ got f) where
+    pub serial-wrong : isSerial (getD s 29 0) (take 9 (drop 30 s)) ≡ false → packedForm .parse s ≡ bad 12
+    unfolding mapped passed
+    serial-wrong n = record-parts s l ∙ ap (mapped made) (both-then e (rw n))
 
-  pub all-found : (f : Figures) {t : List ℕ} → figuresIn s ≡ got f → readSerial (take 10 (drop 29 s)) ≡ true → t ≡ take 9 (drop 30 s) → packedForm .parse s ≡ got (record { figures = f; serial = t })
-  unfolding mapped passed
-  all-found f e y n = rw n (record-parts s l ∙ ap (mapped made) (both-got e (rw y)))
-
--- ---- bytes by value
-
--- k bytes from i on, one by one
-abbrev pub readFrom : ℕ → ℕ → List ℕ → List ℕ
-readFrom zero i s = []
-readFrom (suc k) i s = getD s i 0 ∷ readFrom k (suc i) s
-
-pub all-read : (k i : ℕ) (s : List ℕ) → i + k ≡ length s → readFrom k i s ≡ drop i s
-all-read zero i s h = let e : i ≡ length s = omega arith in sym (ap (λ (n : ℕ). drop n s) e ∙ drop-length s)
-all-read (suc k) i s h = ap (λ (t : List ℕ). getD s i 0 ∷ t) (all-read k (suc i) s (omega arith)) ∙ sym (drop-cons s i 0 (omega arith))
+    pub all-found : {t : List ℕ} → isSerial (getD s 29 0) (take 9 (drop 30 s)) ≡ true → t ≡ nineOf (take 9 (drop 30 s)) → packedForm .parse s ≡ got (record { figures = f; serial = t })
+    unfolding mapped passed
+    all-found y n =
+        let same = n ∙ nine-is (take 9 (drop 30 s)) (simp (length-take, length-drop) (omega arith)) in
+        rw same (record-parts s l ∙ ap (mapped made) (both-got e (rw y)))

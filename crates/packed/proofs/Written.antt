@@ -11,6 +11,7 @@ use Rattle.stop.specs.Stop.{pair}
 use Rattle.pupil.specs.Pupil.{pupilPacked}
 use Rattle.record.specs.Forms.{Front, Middle, Back, frontPacked, middlePacked, backPacked, serial, packedForm, frontOf, middleOf, backOf}
 use Rattle.record.specs.declared.Record.{Record}
+use Rattle.serial.proofs.Field.{serial-long}
 
 module _ (d : List ℕ) {l1 l2 l3 : List ℕ} (s t u : List ℕ) (a b c : ℕ) (p : l1 ≡ over d a s) (q : l2 ≡ over l1 b t) (r : l3 ≡ over l2 c u) (k : a + length s ≡ b) (m : b + length t ≡ c) where
   pub three : c + length u ≤ length d → l3 ≡ over d a (s ++ (t ++ u))
@@ -34,10 +35,6 @@ middle-long p = refl
 pub back-long : (p : Back) → length (backPacked .print p) ≡ 6
 unfolding backPacked pupilPacked digits
 back-long p = refl
-
-pub serial-long : (s : List ℕ) → length s ≡ 9 → length (serial .print s) ≡ 10
-unfolding serial
-serial-long s l = omega arith
 
 -- the groups of a record, one behind the other
 pub groups-of : (r : Record) →

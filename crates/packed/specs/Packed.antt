@@ -1,13 +1,13 @@
 -- What the code's readers of the packed record answer, part by part.
 use Prim.Native.Nat.{ℕ}
 use mathlib.Core.List.{List}
-use mathlib.Core.Bool.{Bool, _&&_, cond}
+use mathlib.Core.Bool.{cond}
 use lib.ListN.{drop}
 use Rattle.digits.specs.Digits.{readGroups}
 use Rattle.digits.specs.declared.Field.{Field}
 use Rattle.digits.specs.declared.Field.the-variants.{Wrong}
 use Rattle.refusal.specs.Answer.{Answer}
-use Rattle.codec.specs.Codec.{Got, got, bad, begins, printable}
+use Rattle.codec.specs.Codec.{Got, got, bad, begins}
 use Rattle.frame.specs.Message.{found}
 use Rattle.record.specs.Record.{topDistance}
 use Rattle.record.specs.Forms.{Front, Back, packedForm}
@@ -23,10 +23,6 @@ use Rattle.packed.specs.declared.Gathered.the-variants as all
 -- d and four groups
 unfoldable pub readFocus : List ℕ → Field
 readFocus s = cond (begins 100 s) (readGroups topDistance (drop 1 s)) Wrong
-
--- S and a text
-unfoldable pub readSerial : List ℕ → Bool
-readSerial s = begins 83 s && printable (drop 1 s)
 
 -- a group's numbers, or the first wrong field
 unfoldable pub fourSays : Four → Got Front

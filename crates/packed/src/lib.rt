@@ -17,8 +17,8 @@ ghost use Rattle.refusal.specs.declared.Refusal.the-variants as refusals;
 ghost use Rattle.frame.specs.Message.{readOf, writeOf, wroteOf, leftBy};
 ghost use Rattle.codec.specs.Codec.{mapped, both};
 ghost use Rattle.record.specs.Record.{recordRead};
-ghost use Rattle.record.specs.Forms.{frontPacked, middlePacked, backPacked, serial, frontOf, middleOf, backOf, figuresOf, packedForm};
-ghost use Rattle.packed.specs.Packed.{readFocus, fourSays, threeSays, figuresSays, readSerial, readContents};
+ghost use Rattle.record.specs.Forms.{frontPacked, middlePacked, backPacked, frontOf, middleOf, backOf, figuresOf, packedForm};
+ghost use Rattle.packed.specs.Packed.{readFocus, fourSays, threeSays, figuresSays, readContents};
 
 // A group of four numbers, or the first wrong field.
 enum Four {
@@ -71,15 +71,6 @@ fn put_back(out: &mut [u8], f: Figures)
     digits::put_groups(out, 27, 2, f.zoom);
 }
 
-// Writes S and the nine bytes.
-fn put_serial(out: &mut [u8], text: [u8; 9])
-    requires { ⌜ 39 ≤ length (now out) ⌝ }
-    ensures { λ _. ⌜ now (out .exit) ≡ over (now (out .entry)) 29 (serial .print text) ⌝ }
-{
-    lent::put_byte(out, 29, 83);
-    lent::put_text(out, 30, &text);
-}
-
 // Writes the contents alone, where the 39 bytes fit.
 pub fn put_packed_record(out: &mut [u8], r: Record)
     ensures { λ _. ⌜ now (out .exit) ≡ over (now (out .entry)) 0 (packedForm .print r) ⌝ }
@@ -87,12 +78,12 @@ pub fn put_packed_record(out: &mut [u8], r: Record)
     if out.len() < 39 {
         return;
     }
-    let f = r.figures;
-    let text = r.serial;
-    put_front(out, f);
-    put_middle(out, f);
-    put_back(out, f);
-    put_serial(out, text);
+    let figures = r.figures;
+    let serial = r.serial;
+    put_front(out, figures);
+    put_middle(out, figures);
+    put_back(out, figures);
+    serial::put_serial(out, 29, serial);
 }
 
 // Writes a whole message: the lowest field out of range is refused first, then too little room.
@@ -208,25 +199,6 @@ fn gather(front: Four, middle: Four, back: Three) -> Gathered
     }
 }
 
-// Whether the ten bytes are S and a text.
-fn is_serial(s: &[u8]) -> bool
-    requires { ⌜ length (now s) ≡ 10 ⌝ }
-    ensures { λ r. ⌜ r ≡ readSerial (now (s .entry)) ⌝ }
-{
-    if s[0] != 83 {
-        return false;
-    }
-    codec::is_text(&s[1..10])
-}
-
-// Nine bytes by value.
-fn nine(s: &[u8]) -> [u8; 9]
-    requires { ⌜ length (now s) ≡ 9 ⌝ }
-    ensures { λ r. ⌜ r ≡ now (s .entry) ⌝ }
-{
-    [s[0], s[1], s[2], s[3], s[4], s[5], s[6], s[7], s[8]]
-}
-
 // Reads the 39 bytes of the contents.
 fn read_contents(s: &[u8]) -> RecordRead
     requires { ⌜ length (now s) ≡ 39 ⌝ }
@@ -239,14 +211,11 @@ fn read_contents(s: &[u8]) -> RecordRead
     ) {
         Gathered::Wrong(i) => record::refused_record(Refusal::Contents(i)),
         Gathered::Found(figures) => {
-            if !is_serial(&s[29..39]) {
+            if !serial::is_serial(s[29], &s[30..39]) {
                 return record::refused_record(Refusal::Contents(12));
             }
-            let text = nine(&s[30..39]);
-            record::accepted_record(Record {
-                figures,
-                serial: text,
-            })
+            let serial = serial::nine_of(&s[30..39]);
+            record::accepted_record(Record { figures, serial })
         }
     }
 }

@@ -8,7 +8,8 @@ use Rattle.laws.specs.Over.{over}
 use Rattle.laws.proofs.OverLaws.{over-short}
 use Rattle.record.specs.Forms.{frontPacked, middlePacked, backPacked, serial, frontOf, middleOf, backOf, packedForm}
 use Rattle.record.specs.declared.Record.{Record}
-use Rattle.packed.proofs.Written.{four, front-long, middle-long, back-long, serial-long, groups-of, record-long}
+use Rattle.serial.proofs.Field.{serial-long}
+use Rattle.packed.proofs.Written.{four, front-long, middle-long, back-long, groups-of, record-long}
 use borrow.Author.Needs.{needs}
 use Rattle.packed.proofs.put_packed_record.Statement.{statement}
 use Rattle.packed.proofs.put_packed_record.Tie as tie

@@ -75,6 +75,9 @@ refused-record-requires c κs = search needs
 enum-known-figures : tie.Need-enum-known-figures
 enum-known-figures c = search needs
 
+shared-slice-read-is-serial : tie.Need-shared-slice-read-is-serial
+shared-slice-read-is-serial c = search needs
+
 sub-is-serial : tie.Need-sub-is-serial
 sub-is-serial c = search needs
 
@@ -94,22 +97,22 @@ returns : tie.Need-returns
 unfolding readContents found
 returns c =
     let t = c .before .before in
-    let k = t .before .before in
+    let k = t .before .before .before in
     let s = start (k .before .before .before) in
     c .refused-record2 .ensures
     ∙ ap (λ (q : Got Record). recordRead (found q)) (sym (serial-wrong _ (s .pre) _ (figures-found k) (sym (t .is-serial .ensures) ∙ not-true _ (c .before .if1 .taken))))
 
-sub-nine : tie.Need-sub-nine
-sub-nine c = search needs
+sub-nine-of : tie.Need-sub-nine-of
+sub-nine-of c = search needs
 
-part-nine-start : tie.Need-part-nine-start
-part-nine-start c = search needs
+part-nine-of-start : tie.Need-part-nine-of-start
+part-nine-of-start c = search needs
 
-part-nine-end : tie.Need-part-nine-end
-part-nine-end c = search needs
+part-nine-of-end : tie.Need-part-nine-of-end
+part-nine-of-end c = search needs
 
-nine-requires : tie.Need-nine-requires
-nine-requires c κs = search needs
+nine-of-requires : tie.Need-nine-of-requires
+nine-of-requires c κs = search needs
 
 accepted-record-requires : tie.Need-accepted-record-requires
 accepted-record-requires c κs = search needs
@@ -128,11 +131,11 @@ returns-3 c =
     let n = c .before in
     let e = n .before .before in
     let t = e .before in
-    let k = t .before .before in
+    let k = t .before .before .before in
     let s = start (k .before .before .before) in
     c .accepted-record .ensures
     ∙ ap (λ (q : Got Record). recordRead (found q))
-    (sym (all-found _ (s .pre) _ (figures-found k) (sym (t .is-serial .ensures) ∙ not-false _ (e .if1 .left)) (n .nine .ensures)))
+    (sym (all-found _ (s .pre) _ (figures-found k) (sym (t .is-serial .ensures) ∙ not-false _ (e .if1 .left)) (n .nine-of .ensures)))
 
 pub read-contents-spec : {M : Type 1} → statement M
 read-contents-spec =
@@ -154,16 +157,17 @@ read-contents-spec =
     enum-known-i
     refused-record-requires
     enum-known-figures
+    shared-slice-read-is-serial
     sub-is-serial
     part-is-serial-start
     part-is-serial-end
     is-serial-requires
     refused-record-requires-2
     returns
-    sub-nine
-    part-nine-start
-    part-nine-end
-    nine-requires
+    sub-nine-of
+    part-nine-of-start
+    part-nine-of-end
+    nine-of-requires
     accepted-record-requires
     returns-2
     returns-3)
