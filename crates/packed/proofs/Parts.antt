@@ -17,17 +17,14 @@ use Rattle.stop.proofs.Exact.{pair-read}
 use Rattle.pupil.specs.Pupil.{pupilPacked, readPupilPacked, pupilSays}
 use Rattle.pupil.proofs.Exact.{packed-read, packed-width}
 use Rattle.record.specs.Record.{topDistance}
-use Rattle.record.specs.Forms.{Front, Middle, Back, frontPacked, middlePacked, backPacked, serial, figuresOf, recordOf, packedForm}
+use Rattle.record.specs.Forms.{frontPacked, middlePacked, backPacked, serial, figuresOf, recordOf, packedForm}
 use Rattle.record.specs.declared.Figures.{Figures}
-use Rattle.record.specs.declared.Record.{Record}
 use Rattle.serial.specs.Serial.{isSerial, nineOf}
 use Rattle.serial.proofs.Field.{serial-at, nine-is}
-use Rattle.packed.specs.Packed.{readFocus, fourSays, threeSays, figuresSays}
-use Rattle.packed.specs.declared.Four.{Four}
-use Rattle.packed.specs.declared.Three.{Three}
-use Rattle.packed.specs.declared.Gathered.{Gathered}
+use Rattle.gather.proofs.Laws.{wrong-first, wrong-later, right-both, mapped-wrong, mapped-right, made, remade}
+use Rattle.packed.specs.Packed.{readFocus}
 
--- ---- a run of fields: the first that is wrong, or all
+-- ---- a field, by what its reader in the code answers
 
 pub gave : (i : ℕ) {r f : Field} {n : ℕ} → r ≡ f → r ≡ Value n → fieldSays i f ≡ got n
 unfolding fieldSays
@@ -36,18 +33,6 @@ gave i e g = ap (fieldSays i) (sym e ∙ g)
 pub refused : (i : ℕ) {r f : Field} → r ≡ f → r ≡ Wrong → fieldSays i f ≡ bad i
 unfolding fieldSays
 refused i e g = ap (fieldSays i) (sym e ∙ g)
-
-pub both-bad : {A B : Type 0} {p : Got A} {i : ℕ} (q : Got B) → p ≡ bad i → both p q ≡ bad i
-unfolding both
-both-bad q e = rw e
-
-pub both-then : {A B : Type 0} {p : Got A} {q : Got B} {a : A} {i : ℕ} → p ≡ got a → q ≡ bad i → both p q ≡ bad i
-unfolding both
-both-then e g = rw (e, g)
-
-pub both-got : {A B : Type 0} {p : Got A} {q : Got B} {a : A} {b : B} → p ≡ got a → q ≡ got b → both p q ≡ got (a, b)
-unfolding both
-both-got e g = rw (e, g)
 
 -- ---- tags
 
@@ -104,16 +89,6 @@ module _ {A B C D : Type 0} (c : Codec A) (d : Codec B) (e : Codec C) (f : Codec
       let y : drop j (take (j + k) (drop i s)) ≡ take k (drop j (drop i s)) = within j k (drop i s) (simp length-drop (omega arith)) in
       rw (p, q, r, take-take i (i + (j + k)) s (omega arith), x, take-take j (j + k) (drop i s) (omega arith), y, drop-drop j i s)
 
--- fields 1 to 11 and the serial, as a record
-abbrev made : Figures × List ℕ → Record
-made p = record { figures = p .0; serial = p .1 }
-
-remade : (p : Got (Front × (Middle × Back))) (q : Got (List ℕ)) → mapped recordOf (both p q) ≡ mapped made (both (mapped figuresOf p) q)
-unfolding mapped both
-remade (got a) (got b) = refl
-remade (got a) (bad i) = refl
-remade (bad i) q = refl
-
 front-width : frontPacked .width ≡ 9
 unfolding frontPacked pair
 front-width = refl
@@ -130,10 +105,6 @@ back-width = refl
 abbrev pub figuresIn : List ℕ → Got Figures
 figuresIn s = mapped figuresOf (both (frontPacked .parse (take 9 s)) (both (middlePacked .parse (take 14 (drop 9 s))) (backPacked .parse (take 6 (drop 23 s)))))
 
-pub figures-in : (s : List ℕ) (g : Gathered) (x y : Four) (z : Three) → figuresSays g ≡ mapped figuresOf (both (fourSays x) (both (fourSays y) (threeSays z))) →
-    fourSays x ≡ frontPacked .parse (take 9 s) → fourSays y ≡ middlePacked .parse (take 14 (drop 9 s)) → threeSays z ≡ backPacked .parse (take 6 (drop 23 s)) → figuresSays g ≡ figuresIn s
-figures-in s g x y z e p q r = e ∙ rw (p, q, r)
-
 -- what the serial's bytes hold
 abbrev serialIn : List ℕ → Got (List ℕ)
 serialIn s = passed (isSerial (getD s 29 0) (take 9 (drop 30 s))) 12 (take 9 (drop 30 s))
@@ -148,16 +119,15 @@ record-parts s l =
 module _ (s : List ℕ) (l : length s ≡ 39) where
   -- a wrong field among the first eleven
   pub figures-wrong : (i : ℕ) → figuresIn s ≡ bad i → packedForm .parse s ≡ bad i
-  unfolding mapped
-  figures-wrong i e = record-parts s l ∙ ap (mapped made) (both-bad _ e)
+  figures-wrong i e = record-parts s l ∙ mapped-wrong made (wrong-first _ e)
 
   module _ (f : Figures) (e : figuresIn s ≡ got f) where
     pub serial-wrong : isSerial (getD s 29 0) (take 9 (drop 30 s)) ≡ false → packedForm .parse s ≡ bad 12
-    unfolding mapped passed
-    serial-wrong n = record-parts s l ∙ ap (mapped made) (both-then e (rw n))
+    unfolding passed
+    serial-wrong n = record-parts s l ∙ mapped-wrong made (wrong-later e (rw n))
 
     pub all-found : {t : List ℕ} → isSerial (getD s 29 0) (take 9 (drop 30 s)) ≡ true → t ≡ nineOf (take 9 (drop 30 s)) → packedForm .parse s ≡ got (record { figures = f; serial = t })
-    unfolding mapped passed
+    unfolding passed
     all-found y n =
         let same = n ∙ nine-is (take 9 (drop 30 s)) (simp (length-take, length-drop) (omega arith)) in
-        rw same (record-parts s l ∙ ap (mapped made) (both-got e (rw y)))
+        rw same (record-parts s l ∙ mapped-right made (right-both e (rw y)))

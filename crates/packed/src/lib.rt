@@ -2,6 +2,9 @@
 // groups: front 0..9, middle 9..23, back 23..29, serial 29..39.
 use digits::Field;
 use frame::Wrote;
+use gather::Eleven;
+use gather::Four;
+use gather::Three;
 use pupil::Signed;
 use record::Figures;
 use record::Record;
@@ -15,28 +18,10 @@ ghost use Rattle.laws.specs.Gives.{Gives};
 ghost use Rattle.laws.specs.Over.{over};
 ghost use Rattle.refusal.specs.declared.Refusal.the-variants as refusals;
 ghost use Rattle.frame.specs.Message.{readOf, writeOf, wroteOf, leftBy};
-ghost use Rattle.codec.specs.Codec.{mapped, both};
 ghost use Rattle.record.specs.Record.{recordRead};
-ghost use Rattle.record.specs.Forms.{frontPacked, middlePacked, backPacked, frontOf, middleOf, backOf, figuresOf, packedForm};
-ghost use Rattle.packed.specs.Packed.{readFocus, fourSays, threeSays, figuresSays, readContents};
-
-// A group of four numbers, or the first wrong field.
-enum Four {
-    Found(u32, u32, u32, u32),
-    Wrong(u32),
-}
-
-// The view, the pupil and the zoom, or the first wrong field.
-enum Three {
-    Found(u32, i32, u32),
-    Wrong(u32),
-}
-
-// Fields 1 to 11, or the first wrong one.
-enum Gathered {
-    Found(Figures),
-    Wrong(u32),
-}
+ghost use Rattle.record.specs.Forms.{frontPacked, middlePacked, backPacked, frontOf, middleOf, backOf, packedForm};
+ghost use Rattle.gather.specs.Gather.{fourSays, threeSays};
+ghost use Rattle.packed.specs.Packed.{readFocus, readContents};
 
 // Writes d and four groups, two groups, the shared pair.
 fn put_front(out: &mut [u8], f: Figures)
@@ -120,16 +105,16 @@ fn read_front(s: &[u8]) -> Four
     ensures { λ r. ⌜ fourSays r ≡ frontPacked .parse (now (s .entry)) ⌝ }
 {
     let Field::Value(focus) = read_focus(&s[0..5]) else {
-        return Four::Wrong(1);
+        return Four::First(1);
     };
     let Field::Value(aperture) = digits::read_groups(&s[5..7], 4095) else {
-        return Four::Wrong(2);
+        return Four::First(2);
     };
     let Field::Value(stop) = stop::read_stop(s[7], s[8]) else {
-        return Four::Wrong(3);
+        return Four::First(3);
     };
     let Field::Value(tenth) = stop::read_tenth(s[8]) else {
-        return Four::Wrong(4);
+        return Four::First(4);
     };
     Four::Found(focus, aperture, stop, tenth)
 }
@@ -140,16 +125,16 @@ fn read_middle(s: &[u8]) -> Four
     ensures { λ r. ⌜ fourSays r ≡ middlePacked .parse (now (s .entry)) ⌝ }
 {
     let Field::Value(focal) = digits::read_groups(&s[0..2], 1023) else {
-        return Four::Wrong(5);
+        return Four::First(5);
     };
     let Field::Value(hyperfocal) = digits::read_groups(&s[2..6], 9999999) else {
-        return Four::Wrong(6);
+        return Four::First(6);
     };
     let Field::Value(near) = digits::read_groups(&s[6..10], 9999999) else {
-        return Four::Wrong(7);
+        return Four::First(7);
     };
     let Field::Value(far) = digits::read_groups(&s[10..14], 9999999) else {
-        return Four::Wrong(8);
+        return Four::First(8);
     };
     Four::Found(focal, hyperfocal, near, far)
 }
@@ -160,43 +145,15 @@ fn read_back(s: &[u8]) -> Three
     ensures { λ r. ⌜ threeSays r ≡ backPacked .parse (now (s .entry)) ⌝ }
 {
     let Field::Value(view) = digits::read_groups(&s[0..2], 4095) else {
-        return Three::Wrong(9);
+        return Three::First(9);
     };
     let Signed::Number(pupil) = pupil::read_pupil_packed(&s[2..4]) else {
-        return Three::Wrong(10);
+        return Three::First(10);
     };
     let Field::Value(zoom) = digits::read_groups(&s[4..6], 1000) else {
-        return Three::Wrong(11);
+        return Three::First(11);
     };
     Three::Found(view, pupil, zoom)
-}
-
-// The three groups as the fields of a record; of several wrong fields the first.
-fn gather(front: Four, middle: Four, back: Three) -> Gathered
-    ensures { λ r. ⌜ figuresSays r ≡ mapped figuresOf (both (fourSays front) (both (fourSays middle) (threeSays back))) ⌝ }
-{
-    match front {
-        Four::Wrong(i) => Gathered::Wrong(i),
-        Four::Found(focus, aperture, stop, tenth) => match middle {
-            Four::Wrong(j) => Gathered::Wrong(j),
-            Four::Found(focal, hyperfocal, near, far) => match back {
-                Three::Wrong(k) => Gathered::Wrong(k),
-                Three::Found(view, pupil, zoom) => Gathered::Found(Figures {
-                    focus,
-                    aperture,
-                    stop,
-                    tenth,
-                    focal,
-                    hyperfocal,
-                    near,
-                    far,
-                    view,
-                    pupil,
-                    zoom,
-                }),
-            },
-        },
-    }
 }
 
 // Reads the 39 bytes of the contents.
@@ -204,13 +161,13 @@ fn read_contents(s: &[u8]) -> RecordRead
     requires { ⌜ length (now s) ≡ 39 ⌝ }
     ensures { λ a. ⌜ a ≡ recordRead (readContents (now (s .entry))) ⌝ }
 {
-    match gather(
+    match gather::gather(
         read_front(&s[0..9]),
         read_middle(&s[9..23]),
         read_back(&s[23..29]),
     ) {
-        Gathered::Wrong(i) => record::refused_record(Refusal::Contents(i)),
-        Gathered::Found(figures) => {
+        Eleven::First(i) => record::refused_record(Refusal::Contents(i)),
+        Eleven::Found(figures) => {
             if !serial::is_serial(s[29], &s[30..39]) {
                 return record::refused_record(Refusal::Contents(12));
             }

@@ -1,7 +1,7 @@
 -- Four fields in a row: writes one behind the other are one write, and a parser goes by the parts of a message. Assumes nothing.
 use Prim.Native.Nat.{ℕ, suc, _+_, _-_, _≤_, _<_}
 use mathlib.Core.List.{List, [], _∷_, _++_, append-assoc}
-use mathlib.Core.Path.{_≡_, refl, sym, ap, ap₂, _∙_}
+use mathlib.Core.Path.{_≡_, refl, ap, ap₂, _∙_}
 use native.Mathlib.Omega.{arith}
 use borrow.Author.Tests.{eq-eqb, ne-eqb}
 use lib.ListN.{length, take, drop, getD, length-append, length-drop}
@@ -12,7 +12,7 @@ use Rattle.digits.specs.Digits.{decimal}
 use Rattle.digits.specs.declared.Field.{Field}
 use Rattle.digits.specs.declared.Field.the-variants.{Wrong}
 use Rattle.digits.proofs.Laws.{length-digits}
-use Rattle.codec.specs.Codec.{Got, got, bad, Codec, both, mapped, fieldSays, number, tagged, _⊗_, readTagged}
+use Rattle.codec.specs.Codec.{Codec, both, fieldSays, number, tagged, _⊗_, readTagged}
 use Rattle.codec.proofs.Exact.{tagged-number}
 
 -- ---- writing
@@ -33,30 +33,7 @@ four-written d s t u v a i j k n ls lt lu lv h p q r o =
     let stu = onto d (s ++ t) u a (a + i + j) st r (omega arith) (omega arith) in
     onto d ((s ++ t) ++ u) v a (a + i + j + k) stu o (omega arith) (omega arith) ∙ ap (over d a) (append-assoc (s ++ t) u v ∙ append-assoc s t (u ++ v))
 
--- ---- reading: the first wrong field, or all of them
-
-module _ {A B : Type 0} where
-  pub wrong-first : {p : Got A} (q : Got B) {i : ℕ} → p ≡ bad i → both p q ≡ bad i
-  unfolding both
-  wrong-first q e = rw e
-
-  pub wrong-later : {p : Got A} {q : Got B} {a : A} {i : ℕ} → p ≡ got a → q ≡ bad i → both p q ≡ bad i
-  unfolding both
-  wrong-later e f = rw (e, f)
-
-  pub right-both : {p : Got A} {q : Got B} {a : A} {b : B} → p ≡ got a → q ≡ got b → both p q ≡ got (a, b)
-  unfolding both
-  right-both e f = rw (e, f)
-
--- the same fields as another value
-module _ {A B : Type 0} (f : A → B) where
-  pub mapped-wrong : {p : Got A} {i : ℕ} → p ≡ bad i → mapped f p ≡ bad i
-  unfolding mapped
-  mapped-wrong e = rw e
-
-  pub mapped-right : {p : Got A} {a : A} → p ≡ got a → mapped f p ≡ got (f a)
-  unfolding mapped
-  mapped-right e = rw e
+-- ---- reading
 
 -- what the parts of a message give, in order
 pub three-parts : {A B C : Type 0} (c : Codec A) (d : Codec B) (e : Codec C) (s : List ℕ) → length s ≡ c .width + d .width + e .width →
@@ -83,11 +60,7 @@ four-parts c d e f s l =
 pub drop-of-take : (n k : ℕ) (s : List ℕ) → n ≤ length s → drop n (take (n + k) s) ≡ take k (drop n s)
 drop-of-take n k s h = ap (drop n) (take-add n k s) ∙ drop-at (take n s) (take k (drop n s)) n (length-take-le n s h)
 
--- ---- a field or a group, by what its reader in the code answers
-
--- what an answer says is what the parser found
-pub answered : {R A : Type 0} (says : R → Got A) {f k : R} {g : Got A} → says f ≡ g → f ≡ k → g ≡ says k
-answered says e v = sym e ∙ ap says v
+-- ---- a field, by what its reader in the code answers
 
 -- a tag and w digits
 abbrev pub numbered : ℕ → ℕ → ℕ → ℕ → Codec ℕ

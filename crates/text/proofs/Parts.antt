@@ -4,22 +4,22 @@ use mathlib.Core.Bool.{true, false}
 use mathlib.Core.List.{List}
 use mathlib.Core.Path.{_≡_, refl, sym, ap, _∙_}
 use native.Mathlib.Omega.{arith}
-use lib.IntN.{ℤ}
 use lib.ListN.{length, take, drop, getD, length-take, length-drop}
 use lib.Seq.{take-take}
-use Rattle.codec.specs.Codec.{Got, got, bad, passed, both, mapped}
+use Rattle.codec.specs.Codec.{got, bad, passed, both, mapped}
 use Rattle.pointed.specs.Pointed.{pointed}
 use Rattle.stop.specs.Stop.{stop}
 use Rattle.pupil.specs.Pupil.{pupilText, readPupilText, pupilSays}
 use Rattle.pupil.specs.declared.Signed.{Signed}
 use Rattle.pupil.proofs.Exact.{text-read}
-use Rattle.record.specs.Forms.{Back, frontText, middleText, backText, serial, textForm, recordOf, frontOf, middleOf, backOf}
+use Rattle.record.specs.Forms.{frontText, middleText, backText, serial, textForm, figuresOf}
 use Rattle.record.specs.Record.{topDistance}
 use Rattle.record.specs.declared.Figures.{Figures}
 use Rattle.serial.specs.Serial.{isSerial, nineOf}
 use Rattle.serial.proofs.Field.{serial-at, nine-is}
-use Rattle.text.specs.Text.{stopTagged, viewTagged, figuresText}
-use Rattle.text.proofs.Chains.{numbered, three-parts, four-parts, drop-of-take, wrong-first, wrong-later, right-both, mapped-wrong, mapped-right}
+use Rattle.gather.proofs.Laws.{wrong-first, wrong-later, right-both, mapped-wrong, mapped-right, made, remade}
+use Rattle.text.specs.Text.{stopTagged, viewTagged, readFigures}
+use Rattle.text.proofs.Chains.{numbered, three-parts, four-parts, drop-of-take}
 
 front-width : frontText .width ≡ 19
 unfolding frontText stop
@@ -57,38 +57,35 @@ unfolding backText pointed pupilText
 back-parts s l = three-parts viewTagged pupilText (numbered 122 11 4 1000) s l
 
 pub figures-parts : (s : List ℕ) → length s ≡ 64 →
-    figuresText .parse s ≡ both (frontText .parse (take 19 s))
+    readFigures s ≡ mapped figuresOf (both (frontText .parse (take 19 s))
     (both (middleText .parse (take 29 (drop 19 s)))
-    (backText .parse (take 16 (drop 48 s))))
+    (backText .parse (take 16 (drop 48 s)))))
 figures-parts s l =
-    three-parts frontText middleText backText s (rw (front-width, middle-width, back-width) l) ∙ rw (front-width, middle-width, back-width)
+    ap (mapped figuresOf) (three-parts frontText middleText backText s (rw (front-width, middle-width, back-width) l) ∙ rw (front-width, middle-width, back-width))
 
 pub pupil-says : (s : List ℕ) → length s ≡ 5 → {f : Signed} → f ≡ readPupilText s → pupilSays f ≡ pupilText .parse s
 pupil-says s l e = ap pupilSays e ∙ text-read s l
 
--- the pupil as the code holds it
-pub same-pupil : {n m : ℕ} {y z : ℤ} → y ≡ z → _≡_ {A = Got Back} (got (n, (z, m))) (got (n, (y, m)))
-same-pupil {n} {m} e = ap (λ (x : ℤ). got (n, (x, m))) (sym e)
-
 -- ---- a whole record
 
 module _ (m : List ℕ) (h : 74 ≤ length m) where
-  record-parts : textForm .parse (take 74 m) ≡ mapped recordOf (both (figuresText .parse (take 64 m)) (serial .parse (take 10 (drop 64 m))))
+  record-parts : textForm .parse (take 74 m) ≡ mapped made (both (readFigures (take 64 m)) (serial .parse (take 10 (drop 64 m))))
   unfolding textForm
   record-parts =
       rw (front-width, middle-width, back-width, take-take 64 74 m (omega arith), drop-of-take 64 10 m (omega arith))
+      (remade _ (serial .parse (take 10 (drop 64 m))))
 
-  pub figures-wrong : (i : ℕ) → figuresText .parse (take 64 m) ≡ bad i → textForm .parse (take 74 m) ≡ bad i
-  figures-wrong i e = record-parts ∙ mapped-wrong recordOf (wrong-first _ e)
+  pub figures-wrong : (i : ℕ) → readFigures (take 64 m) ≡ bad i → textForm .parse (take 74 m) ≡ bad i
+  figures-wrong i e = record-parts ∙ mapped-wrong made (wrong-first _ e)
 
-  module _ (f : Figures) (e : figuresText .parse (take 64 m) ≡ got (frontOf f, (middleOf f, backOf f))) where
+  module _ (f : Figures) (e : readFigures (take 64 m) ≡ got f) where
     pub serial-wrong : isSerial (getD m 64 0) (take 9 (drop 65 m)) ≡ false → textForm .parse (take 74 m) ≡ bad 12
     unfolding passed
-    serial-wrong n = record-parts ∙ mapped-wrong recordOf (wrong-later e (serial-at m 64 (omega arith) ∙ rw n))
+    serial-wrong n = record-parts ∙ mapped-wrong made (wrong-later e (serial-at m 64 (omega arith) ∙ rw n))
 
     pub record-found : (s : List ℕ) → isSerial (getD m 64 0) (take 9 (drop 65 m)) ≡ true → s ≡ nineOf (take 9 (drop 65 m)) →
         textForm .parse (take 74 m) ≡ got (record { figures = f; serial = s })
     unfolding passed
     record-found s y n =
         let same : s ≡ take 9 (drop 65 m) = n ∙ nine-is (take 9 (drop 65 m)) (simp (length-take, length-drop) (omega arith)) in
-        record-parts ∙ mapped-right recordOf (right-both e (serial-at m 64 (omega arith) ∙ rw y (ap got (sym same))))
+        record-parts ∙ mapped-right made (right-both e (serial-at m 64 (omega arith) ∙ rw y (ap got (sym same))))

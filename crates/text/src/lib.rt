@@ -2,6 +2,9 @@
 // record; each group of fields has a function that writes it and one that reads it.
 use digits::Field;
 use frame::Wrote;
+use gather::Eleven;
+use gather::Four;
+use gather::Three;
 use pupil::Signed;
 use record::Figures;
 use record::Record;
@@ -18,25 +21,8 @@ ghost use Rattle.frame.specs.Message.{readOf, writeOf, wroteOf, leftBy};
 ghost use Rattle.refusal.specs.declared.Refusal.the-variants as refusal;
 ghost use Rattle.record.specs.Record.{recordRead};
 ghost use Rattle.record.specs.Forms.{frontText, middleText, backText, textForm, frontOf, middleOf, backOf};
-ghost use Rattle.text.specs.Text.{stopTagged, viewTagged, figuresText, fourSays, backSays, figuresSays};
-
-// Fields 1 to 4 or 5 to 8, or the first of them that no writer writes.
-enum Four {
-    Found(u32, u32, u32, u32),
-    First(u32),
-}
-
-// Fields 9 to 11, or the first of them that no writer writes.
-enum Three {
-    Found(u32, i32, u32),
-    First(u32),
-}
-
-// Fields 1 to 11, or the first of them that no writer writes.
-enum Eleven {
-    Found(Figures),
-    First(u32),
-}
+ghost use Rattle.gather.specs.Gather.{fourSays, threeSays, elevenSays};
+ghost use Rattle.text.specs.Text.{stopTagged, viewTagged, readFigures};
 
 // Writes D, T, t, +.
 fn put_front(out: &mut [u8], f: Figures)
@@ -169,7 +155,7 @@ fn read_middle(s: &[u8]) -> Four
 // Reads V, E, z.
 fn read_back(s: &[u8]) -> Three
     requires { ⌜ length (now s) ≡ 16 ⌝ }
-    ensures { λ r. ⌜ backSays r ≡ backText .parse (now (s .entry)) ⌝ }
+    ensures { λ r. ⌜ threeSays r ≡ backText .parse (now (s .entry)) ⌝ }
 {
     let Field::Value(view) = read_view(&s[0..6]) else {
         return Three::First(9);
@@ -183,33 +169,16 @@ fn read_back(s: &[u8]) -> Three
     Three::Found(view, pupil, zoom)
 }
 
-// Reads the three groups; the first refusal is handed up.
+// Reads the three groups; the first wrong field is handed up.
 fn read_figures(s: &[u8]) -> Eleven
     requires { ⌜ length (now s) ≡ 64 ⌝ }
-    ensures { λ r. ⌜ figuresSays r ≡ figuresText .parse (now (s .entry)) ⌝ }
+    ensures { λ r. ⌜ elevenSays r ≡ readFigures (now (s .entry)) ⌝ }
 {
-    match read_front(&s[0..19]) {
-        Four::First(i) => Eleven::First(i),
-        Four::Found(focus, aperture, stop, tenth) => match read_middle(&s[19..48]) {
-            Four::First(i) => Eleven::First(i),
-            Four::Found(focal, hyperfocal, near, far) => match read_back(&s[48..64]) {
-                Three::First(i) => Eleven::First(i),
-                Three::Found(view, pupil, zoom) => Eleven::Found(Figures {
-                    focus,
-                    aperture,
-                    stop,
-                    tenth,
-                    focal,
-                    hyperfocal,
-                    near,
-                    far,
-                    view,
-                    pupil,
-                    zoom,
-                }),
-            },
-        },
-    }
+    gather::gather(
+        read_front(&s[0..19]),
+        read_middle(&s[19..48]),
+        read_back(&s[48..64]),
+    )
 }
 
 // Reads a message: its length, its end and its checksum, then its contents.

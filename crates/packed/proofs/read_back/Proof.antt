@@ -9,8 +9,9 @@ use mir.Facts.{toZ-ofZ}
 use Rattle.digits.specs.Digits.{readGroups}
 use Rattle.codec.specs.Codec.{got, fieldSays}
 use Rattle.pupil.specs.Pupil.{readPupilPacked, pupilSays}
-use Rattle.packed.specs.Packed.{threeSays}
-use Rattle.packed.proofs.Parts.{gave, refused, both-bad, both-then, both-got, back-parts}
+use Rattle.gather.specs.Gather.{threeSays}
+use Rattle.gather.proofs.Laws.{wrong-first, wrong-later, right-both}
+use Rattle.packed.proofs.Parts.{gave, refused, back-parts}
 use borrow.Author.Needs.{needs}
 use Rattle.packed.proofs.read_back.Statement.{statement}
 use Rattle.packed.proofs.read_back.Tie as tie
@@ -58,7 +59,7 @@ returns : tie.Need-returns
 unfolding threeSays
 returns c =
     let r = c .before .before in
-    sym (back-parts _ (r .before .before .before .pre) ∙ both-bad _ (refused 9 (r .read-groups .ensures) (c .enum-told .given .1)))
+    sym (back-parts _ (r .before .before .before .pre) ∙ wrong-first _ (refused 9 (r .read-groups .ensures) (c .enum-told .given .1)))
 
 sub-read-pupil-packed : tie.Need-sub-read-pupil-packed
 sub-read-pupil-packed c = search needs
@@ -83,7 +84,7 @@ unfolding threeSays pupilSays
 returns-2 c =
     let r = c .before .before in
     let a = r .before .before in
-    sym (back-parts _ (start a .pre) ∙ both-then (view-found a) (both-bad _ (ap pupilSays (sym (r .read-pupil-packed .ensures) ∙ c .enum-told2 .given .1))))
+    sym (back-parts _ (start a .pre) ∙ wrong-later (view-found a) (wrong-first _ (ap pupilSays (sym (r .read-pupil-packed .ensures) ∙ c .enum-told2 .given .1))))
 
 sub-read-groups-2 : tie.Need-sub-read-groups-2
 sub-read-groups-2 c = search needs
@@ -109,7 +110,7 @@ returns-3 c =
     let r = c .before .before in
     let b = r .before .before in
     let a = one b in
-    sym (back-parts _ (start a .pre) ∙ both-then (view-found a) (both-then (pupil-found b) (refused 11 (r .read-groups2 .ensures) (c .enum-told3 .given .1))))
+    sym (back-parts _ (start a .pre) ∙ wrong-later (view-found a) (wrong-later (pupil-found b) (refused 11 (r .read-groups2 .ensures) (c .enum-told3 .given .1))))
 
 returns-4 : tie.Need-returns-4
 unfolding threeSays
@@ -117,7 +118,7 @@ returns-4 c =
     let r = c .before .before .before in
     let b = r .before .before in
     let a = one b in
-    rw (same b) (sym (back-parts _ (start a .pre) ∙ both-got (view-found a) (both-got (pupil-found b) (gave 11 (r .read-groups2 .ensures) (c .before .zoom .given .1)))))
+    rw (same b) (sym (back-parts _ (start a .pre) ∙ right-both (view-found a) (right-both (pupil-found b) (gave 11 (r .read-groups2 .ensures) (c .before .zoom .given .1)))))
 
 pub read-back-spec : {M : Type 1} → statement M
 read-back-spec =

@@ -5,8 +5,10 @@ use Rattle.codec.specs.Codec.{Got, got}
 use Rattle.frame.specs.Message.{found}
 use Rattle.record.specs.Record.{recordRead}
 use Rattle.record.specs.declared.Record.{Record}
-use Rattle.packed.specs.Packed.{figuresSays, readContents}
-use Rattle.packed.proofs.Parts.{figuresIn, figures-in, figures-wrong, serial-wrong, all-found}
+use Rattle.gather.specs.Gather.{elevenSays}
+use Rattle.gather.proofs.Laws.{gathered}
+use Rattle.packed.specs.Packed.{readContents}
+use Rattle.packed.proofs.Parts.{figuresIn, figures-wrong, serial-wrong, all-found}
 use borrow.Author.Needs.{needs}
 use Rattle.packed.proofs.read_contents.Statement.{statement}
 use Rattle.packed.proofs.read_contents.Tie as tie
@@ -15,17 +17,16 @@ use Rattle.packed.proofs.read_contents.Tie as tie
 abbrev start : tie.After-gather → tie.Start
 start c = c .before .before .before .before .before .before .before .before
 
-gathered : (c : tie.After-gather) → figuresSays (c .gather .result) ≡ figuresIn (start c .args .s .now)
-gathered c =
+groups-read : (c : tie.After-gather) → elevenSays (c .gather .result) ≡ figuresIn (start c .args .s .now)
+groups-read c =
     let b = c .before in
     let m = b .before .before in
     let f = m .before .before in
-    figures-in (start c .args .s .now) (c .gather .result) (f .read-front .result) (m .read-middle .result) (b .read-back .result)
-    (c .gather .ensures) (f .read-front .ensures) (m .read-middle .ensures) (b .read-back .ensures)
+    gathered (c .gather .ensures) (f .read-front .ensures) (m .read-middle .ensures) (b .read-back .ensures)
 
 figures-found : (c : tie.After-known-told2) → figuresIn (start (c .before .before .before) .args .s .now) ≡ got (c .before .figures .given .0 .0)
-unfolding figuresSays
-figures-found c = sym (gathered (c .before .before .before)) ∙ ap figuresSays (c .before .figures .given .1)
+unfolding elevenSays
+figures-found c = sym (groups-read (c .before .before .before)) ∙ ap elevenSays (c .before .figures .given .1)
 
 sub-read-front : tie.Need-sub-read-front
 sub-read-front c = search needs
@@ -118,12 +119,12 @@ accepted-record-requires : tie.Need-accepted-record-requires
 accepted-record-requires c κs = search needs
 
 returns-2 : tie.Need-returns-2
-unfolding readContents found figuresSays
+unfolding readContents found elevenSays
 returns-2 c =
     let i = c .before .before in
     let g = i .before .before in
     c .refused-record .ensures
-    ∙ ap (λ (q : Got Record). recordRead (found q)) (sym (figures-wrong _ (start g .pre) _ (sym (gathered g) ∙ ap figuresSays (i .i .given .1))))
+    ∙ ap (λ (q : Got Record). recordRead (found q)) (sym (figures-wrong _ (start g .pre) _ (sym (groups-read g) ∙ ap elevenSays (i .i .given .1))))
 
 returns-3 : tie.Need-returns-3
 unfolding readContents found

@@ -6,8 +6,10 @@ use lib.ListN.{take, drop, getD}
 use Rattle.digits.specs.Digits.{readGroups}
 use Rattle.codec.specs.Codec.{got, fieldSays}
 use Rattle.stop.specs.Stop.{readStop}
-use Rattle.packed.specs.Packed.{readFocus, fourSays}
-use Rattle.packed.proofs.Parts.{gave, refused, both-bad, both-then, both-got, front-parts}
+use Rattle.gather.specs.Gather.{fourSays}
+use Rattle.gather.proofs.Laws.{wrong-first, wrong-later, right-both}
+use Rattle.packed.specs.Packed.{readFocus}
+use Rattle.packed.proofs.Parts.{gave, refused, front-parts}
 use borrow.Author.Needs.{needs}
 use Rattle.packed.proofs.read_front.Statement.{statement}
 use Rattle.packed.proofs.read_front.Tie as tie
@@ -53,7 +55,7 @@ returns : tie.Need-returns
 unfolding fourSays
 returns c =
     let r = c .before .before in
-    sym (front-parts _ ∙ both-bad _ (refused 1 (r .read-focus .ensures) (c .enum-told .given .1)))
+    sym (front-parts _ ∙ wrong-first _ (refused 1 (r .read-focus .ensures) (c .enum-told .given .1)))
 
 sub-read-groups : tie.Need-sub-read-groups
 sub-read-groups c = search needs
@@ -78,7 +80,7 @@ unfolding fourSays
 returns-2 c =
     let r = c .before .before in
     let a = r .before .before in
-    sym (front-parts _ ∙ both-then (focus-found a) (both-bad _ (refused 2 (r .read-groups .ensures) (c .enum-told2 .given .1))))
+    sym (front-parts _ ∙ wrong-later (focus-found a) (wrong-first _ (refused 2 (r .read-groups .ensures) (c .enum-told2 .given .1))))
 
 shared-slice-read-read-stop : tie.Need-shared-slice-read-read-stop
 shared-slice-read-read-stop c = search needs
@@ -100,7 +102,7 @@ unfolding fourSays
 returns-3 c =
     let r = c .before .before in
     let b = r .before .before .before in
-    sym (front-parts _ ∙ both-then (focus-found (one b)) (both-then (aperture-found b) (both-bad _ (refused 3 (r .read-stop .ensures) (c .enum-told3 .given .1)))))
+    sym (front-parts _ ∙ wrong-later (focus-found (one b)) (wrong-later (aperture-found b) (wrong-first _ (refused 3 (r .read-stop .ensures) (c .enum-told3 .given .1)))))
 
 shared-slice-read-read-tenth : tie.Need-shared-slice-read-read-tenth
 shared-slice-read-read-tenth c = search needs
@@ -120,7 +122,7 @@ returns-4 c =
     let r = c .before .before in
     let d = r .before .before in
     let b = two d in
-    sym (front-parts _ ∙ both-then (focus-found (one b)) (both-then (aperture-found b) (both-then (stop-found d) (refused 4 (r .read-tenth .ensures) (c .enum-told4 .given .1)))))
+    sym (front-parts _ ∙ wrong-later (focus-found (one b)) (wrong-later (aperture-found b) (wrong-later (stop-found d) (refused 4 (r .read-tenth .ensures) (c .enum-told4 .given .1)))))
 
 returns-5 : tie.Need-returns-5
 unfolding fourSays
@@ -128,7 +130,7 @@ returns-5 c =
     let r = c .before .before .before in
     let d = r .before .before in
     let b = two d in
-    sym (front-parts _ ∙ both-got (focus-found (one b)) (both-got (aperture-found b) (both-got (stop-found d) (gave 4 (r .read-tenth .ensures) (c .before .tenth .given .1)))))
+    sym (front-parts _ ∙ right-both (focus-found (one b)) (right-both (aperture-found b) (right-both (stop-found d) (gave 4 (r .read-tenth .ensures) (c .before .tenth .given .1)))))
 
 pub read-front-spec : {M : Type 1} → statement M
 read-front-spec =

@@ -6,8 +6,9 @@ use lib.ListN.{take, drop}
 use Rattle.digits.specs.Digits.{readGroups}
 use Rattle.codec.specs.Codec.{got, fieldSays}
 use Rattle.record.specs.Record.{topDistance}
-use Rattle.packed.specs.Packed.{fourSays}
-use Rattle.packed.proofs.Parts.{gave, refused, both-bad, both-then, both-got, middle-parts}
+use Rattle.gather.specs.Gather.{fourSays}
+use Rattle.gather.proofs.Laws.{wrong-first, wrong-later, right-both}
+use Rattle.packed.proofs.Parts.{gave, refused, middle-parts}
 use borrow.Author.Needs.{needs}
 use Rattle.packed.proofs.read_middle.Statement.{statement}
 use Rattle.packed.proofs.read_middle.Tie as tie
@@ -56,7 +57,7 @@ returns : tie.Need-returns
 unfolding fourSays
 returns c =
     let r = c .before .before in
-    sym (middle-parts _ (r .before .before .before .pre) ∙ both-bad _ (refused 5 (r .read-groups .ensures) (c .enum-told .given .1)))
+    sym (middle-parts _ (r .before .before .before .pre) ∙ wrong-first _ (refused 5 (r .read-groups .ensures) (c .enum-told .given .1)))
 
 sub-read-groups-2 : tie.Need-sub-read-groups-2
 sub-read-groups-2 c = search needs
@@ -81,7 +82,7 @@ unfolding fourSays
 returns-2 c =
     let r = c .before .before in
     let a = r .before .before in
-    sym (middle-parts _ (start a .pre) ∙ both-then (focal-found a) (both-bad _ (refused 6 (r .read-groups2 .ensures) (c .enum-told2 .given .1))))
+    sym (middle-parts _ (start a .pre) ∙ wrong-later (focal-found a) (wrong-first _ (refused 6 (r .read-groups2 .ensures) (c .enum-told2 .given .1))))
 
 sub-read-groups-3 : tie.Need-sub-read-groups-3
 sub-read-groups-3 c = search needs
@@ -107,7 +108,7 @@ returns-3 c =
     let r = c .before .before in
     let b = r .before .before in
     let a = one b in
-    sym (middle-parts _ (start a .pre) ∙ both-then (focal-found a) (both-then (hyperfocal-found b) (both-bad _ (refused 7 (r .read-groups3 .ensures) (c .enum-told3 .given .1)))))
+    sym (middle-parts _ (start a .pre) ∙ wrong-later (focal-found a) (wrong-later (hyperfocal-found b) (wrong-first _ (refused 7 (r .read-groups3 .ensures) (c .enum-told3 .given .1)))))
 
 sub-read-groups-4 : tie.Need-sub-read-groups-4
 sub-read-groups-4 c = search needs
@@ -134,7 +135,7 @@ returns-4 c =
     let d = r .before .before in
     let b = two d in
     let a = one b in
-    sym (middle-parts _ (start a .pre) ∙ both-then (focal-found a) (both-then (hyperfocal-found b) (both-then (near-found d) (refused 8 (r .read-groups4 .ensures) (c .enum-told4 .given .1)))))
+    sym (middle-parts _ (start a .pre) ∙ wrong-later (focal-found a) (wrong-later (hyperfocal-found b) (wrong-later (near-found d) (refused 8 (r .read-groups4 .ensures) (c .enum-told4 .given .1)))))
 
 returns-5 : tie.Need-returns-5
 unfolding fourSays
@@ -143,7 +144,7 @@ returns-5 c =
     let d = r .before .before in
     let b = two d in
     let a = one b in
-    sym (middle-parts _ (start a .pre) ∙ both-got (focal-found a) (both-got (hyperfocal-found b) (both-got (near-found d) (gave 8 (r .read-groups4 .ensures) (c .before .far .given .1)))))
+    sym (middle-parts _ (start a .pre) ∙ right-both (focal-found a) (right-both (hyperfocal-found b) (right-both (near-found d) (gave 8 (r .read-groups4 .ensures) (c .before .far .given .1)))))
 
 pub read-middle-spec : {M : Type 1} → statement M
 read-middle-spec =

@@ -5,8 +5,10 @@ use mathlib.Core.Path.{_≡_, sym, ap, _∙_}
 use lib.ListN.{take, drop}
 use Rattle.codec.specs.Codec.{got, fieldSays}
 use Rattle.pupil.specs.Pupil.{pupilText, pupilSays}
-use Rattle.text.specs.Text.{viewTagged, backSays}
-use Rattle.text.proofs.Chains.{answered, number-says, wrong-first, wrong-later, right-both}
+use Rattle.gather.specs.Gather.{threeSays}
+use Rattle.gather.proofs.Laws.{answered, wrong-first, wrong-later, right-both}
+use Rattle.text.specs.Text.{viewTagged}
+use Rattle.text.proofs.Chains.{number-says}
 use Rattle.text.proofs.Parts.{back-parts, pupil-says}
 use mir.Syntax.{w32}
 use mir.Val.{toZ, ofZ}
@@ -49,7 +51,7 @@ enum-told : tie.Need-enum-told
 enum-told c = search needs
 
 returns : tie.Need-returns
-unfolding backSays fieldSays pupilSays
+unfolding threeSays fieldSays pupilSays
 returns c =
     let r = c .before .before in
     let b = r .before .before .before in
@@ -76,7 +78,7 @@ enum-told-2 : tie.Need-enum-told-2
 enum-told-2 c = search needs
 
 returns-2 : tie.Need-returns-2
-unfolding backSays fieldSays pupilSays
+unfolding threeSays fieldSays pupilSays
 returns-2 c =
     let r = c .before .before in
     let d1 = r .before .before .before in
@@ -104,7 +106,7 @@ enum-told-3 : tie.Need-enum-told-3
 enum-told-3 c = search needs
 
 returns-3 : tie.Need-returns-3
-unfolding backSays fieldSays pupilSays
+unfolding threeSays fieldSays pupilSays
 returns-3 c =
     let r = c .before .before in
     let d2 = r .before .before .before in
@@ -115,7 +117,7 @@ returns-3 c =
     ∙ wrong-later (view-found d1) (wrong-later (pupil-found d2) (answered (fieldSays 11) (number-says 122 11 4 1000 _ (r .read-tagged .ensures)) (c .enum-told3 .given .1))))
 
 returns-4 : tie.Need-returns-4
-unfolding backSays fieldSays pupilSays
+unfolding threeSays fieldSays pupilSays
 returns-4 c =
     let d3 = c .before in
     let d2 = d3 .before .before .before .before .before in

@@ -11,11 +11,12 @@ use Rattle.codec.specs.Codec.{got}
 use Rattle.frame.specs.Frame.{opening}
 use Rattle.frame.proofs.Exactly.{opens}
 use Rattle.frame.proofs.Answers.{reads-refused, reads-wrong, reads-found}
-use Rattle.record.specs.Forms.{textForm, frontOf, middleOf, backOf}
+use Rattle.record.specs.Forms.{textForm}
 use Rattle.record.specs.Record.{recordRead}
 use Rattle.record.proofs.Exact.{text-form-width}
-use Rattle.text.specs.Text.{figuresText, figuresSays}
-use Rattle.text.proofs.Chains.{answered}
+use Rattle.gather.specs.Gather.{elevenSays}
+use Rattle.gather.proofs.Laws.{answered}
+use Rattle.text.specs.Text.{readFigures}
 use Rattle.text.proofs.Parts.{figures-wrong, serial-wrong, record-found}
 use borrow.Author.Needs.{needs}
 use Rattle.text.proofs.read_text.Statement.{statement}
@@ -32,11 +33,9 @@ room : (o : tie.After-enum-told) → 74 ≤ length (message o)
 room o = omega (arith, opens _ 74 _ (opened o) .long)
 
 -- what the figures gave
-figures-found : (d : tie.After-figures) →
-    let f = d .figures .given .0 .0 in
-    figuresText .parse (take 64 (message (d .before .before .before .before))) ≡ got (frontOf f, (middleOf f, backOf f))
-unfolding figuresSays
-figures-found d = answered figuresSays (d .before .before .read-figures .ensures) (d .figures .given .1)
+figures-found : (d : tie.After-figures) → readFigures (take 64 (message (d .before .before .before .before))) ≡ got (d .figures .given .0 .0)
+unfolding elevenSays
+figures-found d = answered elevenSays (d .before .before .read-figures .ensures) (d .figures .given .1)
 
 open-requires : tie.Need-open-requires
 open-requires c κs = search needs
@@ -122,13 +121,13 @@ returns-2 c =
     at recordRead (reads-refused textForm 74 text-form-width _ _ _ (sym (o .«open» .ensures) ∙ r .r .given .1)) (c .refused-record .ensures)
 
 returns-3 : tie.Need-returns-3
-unfolding figuresSays
+unfolding elevenSays
 returns-3 c =
     let i = c .before .before in
     let f = i .before .before in
     let o = f .before .before in
     at recordRead
-    (reads-wrong textForm 74 text-form-width _ _ _ (opened o) (figures-wrong (message o) (room o) _ (answered figuresSays (f .read-figures .ensures) (i .i .given .1))))
+    (reads-wrong textForm 74 text-form-width _ _ _ (opened o) (figures-wrong (message o) (room o) _ (answered elevenSays (f .read-figures .ensures) (i .i .given .1))))
     (c .refused-record2 .ensures)
 
 returns-4 : tie.Need-returns-4
