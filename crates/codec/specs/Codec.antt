@@ -5,6 +5,7 @@ use mathlib.Core.Bool.{Bool, true, false, _&&_, cond}
 use mathlib.Core.Path.{_≡_}
 use lib.ListN.{length, take, drop, getD}
 use lib.Dec.{leb, eqb}
+use Rattle.laws.specs.Every.{every}
 use Rattle.digits.specs.Digits.{digits, readField, readDecimal}
 use Rattle.digits.specs.declared.Field.{Field}
 use Rattle.digits.specs.declared.Field.the-variants.{Value, Wrong}
@@ -62,9 +63,8 @@ number i b off w top = record {
 }
 
 -- the bytes that a text holds: 20 to 7E hex
-unfoldable pub printable : List ℕ → Bool
-printable [] = true
-printable (x ∷ s) = (leb 32 x && leb x 126) && printable s
+abbrev pub printable : List ℕ → Bool
+printable s = every (λ x. leb 32 x && leb x 126) s
 
 -- field i, a text of w bytes
 abbrev pub text : ℕ → ℕ → Codec (List ℕ)

@@ -7,6 +7,7 @@ use native.Mathlib.Omega.{arith}
 use borrow.Author.Tests.{eq-eqb, eqb-true}
 use lib.Dec.{eqb}
 use lib.ListN.{length, replicate, drop-of-length-le}
+use Rattle.laws.specs.Every.{every}
 use Rattle.laws.specs.Over.{over}
 use Rattle.laws.proofs.Tests.{told, cond-yes, and-left}
 use Rattle.laws.proofs.OverLaws.{over-fits}
@@ -26,7 +27,7 @@ filled-whole n s l = cond-yes s (replicate n 0) (eq-eqb (length s) n l)
 
 -- no text holds a zero: a text of another length is out of range, and so is what it leaves
 pub filled-ok : (n : ℕ) (s : List ℕ) → textOk (suc n) (filled (suc n) s) ≡ textOk (suc n) s
-unfolding textOk printable
+unfolding textOk every
 filled-ok n s =
     let zeros : List ℕ = replicate (suc n) 0 in
     told (eqb (length s) (suc n)) (λ y. ap (textOk (suc n)) (cond-yes s zeros y)) (λ x. rw x (told (eqb (length zeros) (suc n)) (λ y. rw y) (λ z. rw z)))

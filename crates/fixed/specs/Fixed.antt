@@ -4,6 +4,7 @@ use mathlib.Core.Bool.{Bool, true, _&&_, _||_, cond}
 use mathlib.Core.List.{List, [], _∷_}
 use lib.Dec.{leb, eqb}
 use lib.ListN.{length, replicate}
+use Rattle.laws.specs.Every.{every}
 use Rattle.refusal.specs.Answer.{Answer, accepted, refused}
 use Rattle.refusal.specs.declared.Verdict.the-variants.{Done, Refused}
 use Rattle.codec.specs.Codec.{failing, first, printable}
@@ -25,9 +26,8 @@ unfoldable pub letterOk : ℕ → Bool
 letterOk b = eqb b 73 || eqb b 77 || eqb b 66 || eqb b 98
 
 -- blur circles of 0..999
-unfoldable pub blurOk : List ℕ → Bool
-blurOk [] = true
-blurOk (x ∷ s) = leb x 999 && blurOk s
+abbrev pub blurOk : List ℕ → Bool
+blurOk s = every (λ x. leb x 999) s
 
 -- items 3 to 7
 unfoldable pub lensLowest : Lens → ℕ

@@ -1,3 +1,5 @@
 pub mod Tests
 pub mod OneAnswer
 pub mod OverLaws
+pub mod EveryLaws
+pub mod ListLaws

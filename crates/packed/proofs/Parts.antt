@@ -6,8 +6,9 @@ use mathlib.Core.Path.{_≡_, refl, sym, ap, _∙_}
 use native.Mathlib.Omega.{arith}
 use borrow.Author.Tests.{eq-eqb, ne-eqb}
 use lib.ListN.{length, take, drop, getD, length-take, length-drop}
-use lib.Seq.{take-all, take-take, take-add, drop-drop, drop-at, getD-drop, length-take-le}
+use lib.Seq.{take-all, take-take, drop-drop, getD-drop, length-take-le}
 use Rattle.laws.proofs.Tests.{told}
+use Rattle.laws.proofs.ListLaws.{drop-of-take}
 use Rattle.digits.specs.Digits.{readGroups}
 use Rattle.digits.specs.declared.Field.{Field}
 use Rattle.digits.specs.declared.Field.the-variants.{Value, Wrong}
@@ -76,17 +77,13 @@ back-parts s l =
     let two : length (take 2 (drop 2 s)) ≡ 2 = length-take-le 2 (drop 2 s) (simp length-drop (omega arith)) in
     rw (packed-width, drop-drop 2 2 s, ← packed-read (take 2 (drop 2 s)) two, tail 4 2 s l)
 
--- a part of a part
-within : (i k : ℕ) (s : List ℕ) → i ≤ length s → drop i (take (i + k) s) ≡ take k (drop i s)
-within i k s h = rw (take-add i k s) (drop-at (take i s) (take k (drop i s)) i (length-take-le i s h))
-
 module _ {A B C D : Type 0} (c : Codec A) (d : Codec B) (e : Codec C) (f : Codec D) (i j k : ℕ) (p : c .width ≡ i) (q : d .width ≡ j) (r : e .width ≡ k) (s : List ℕ) (h : i + (j + k) ≤ length s) where
   -- three parts and a last one
   four-parts : ((c ⊗ (d ⊗ e)) ⊗ f) .parse s ≡
       both (both (c .parse (take i s)) (both (d .parse (take j (drop i s))) (e .parse (take k (drop (i + j) s))))) (f .parse (drop (i + (j + k)) s))
   four-parts =
-      let x : drop i (take (i + (j + k)) s) ≡ take (j + k) (drop i s) = within i (j + k) s (omega arith) in
-      let y : drop j (take (j + k) (drop i s)) ≡ take k (drop j (drop i s)) = within j k (drop i s) (simp length-drop (omega arith)) in
+      let x : drop i (take (i + (j + k)) s) ≡ take (j + k) (drop i s) = drop-of-take i (j + k) s (omega arith) in
+      let y : drop j (take (j + k) (drop i s)) ≡ take k (drop j (drop i s)) = drop-of-take j k (drop i s) (simp length-drop (omega arith)) in
       rw (p, q, r, take-take i (i + (j + k)) s (omega arith), x, take-take j (j + k) (drop i s) (omega arith), y, drop-drop j i s)
 
 front-width : frontPacked .width ≡ 9

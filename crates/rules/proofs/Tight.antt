@@ -8,11 +8,12 @@ use mathlib.Core.List.{List, [], _∷_, _++_, nil≢cons}
 use lib.ListN.{replicate, length, length-append}
 use lib.Dec.{leb}
 use borrow.Author.Tests.{leb-true, leb-false}
+use Rattle.laws.specs.Every.{every}
 use Rattle.laws.proofs.Tests.{told}
 use Rattle.machine.specs.Machine.{Rules, Kind, a-record, a-reply, Events, received, slot, slots, State, modes, Out, grew, took, dropped, noted, sends, begins, idles, next, shows, sentIn, sent, seen, onSlot, begin, rules, rule2, answer, rule3, onByte, onReturn, onOther}
 use Rattle.machine.specs.Promised.{Promised, ActedBy, RepliedBy}
 use Rattle.machine.proofs.Use.{kindsIn, all-on, acted-first, record-seen, stays-on}
-use Rattle.codec.specs.Codec.{failing, first, printable}
+use Rattle.codec.specs.Codec.{failing, first}
 use Rattle.digits.specs.Digits.{digits}
 use Rattle.frame.specs.Frame.{ending}
 use Rattle.pointed.specs.Pointed.{pointed}
@@ -20,7 +21,7 @@ use Rattle.stop.specs.Stop.{stopOk, stopText, stop}
 use Rattle.pupil.specs.Pupil.{pupilText}
 use Rattle.record.specs.Forms.{frontText, middleText, backText, serial, textForm}
 use Rattle.record.specs.Record.{frontLowest, middleLowest, backLowest, figuresLowest}
-use Rattle.fixed.specs.Fixed.{textOk, kindOk, letterOk, blurOk, lensLowest, fixedLowest, settingsLowest}
+use Rattle.fixed.specs.Fixed.{textOk, kindOk, letterOk, lensLowest, fixedLowest, settingsLowest}
 use Rattle.fixed.specs.Form.{serial as fixedSerial, owner, lens as fixedLens, version, fixedForm}
 use Rattle.units.specs.Units.{byUnit}
 use Rattle.units.specs.Measurement.{measurementLowest, measurementVerdict, figuresIn, recordIn}
@@ -57,7 +58,7 @@ pub attained : Attained
 attained = computed .0
 
 bench-good : Good bench
-unfolding validSource validModes settingsLowest fixedLowest lensLowest textOk kindOk letterOk blurOk failing first printable measurementVerdict measurementLowest byUnit figuresLowest frontLowest middleLowest backLowest stopOk isOn
+unfolding validSource validModes settingsLowest fixedLowest lensLowest textOk kindOk letterOk every failing first measurementVerdict measurementLowest byUnit figuresLowest frontLowest middleLowest backLowest stopOk isOn
 bench-good = record { valid = refl; ready-off = λ e. refl }
 
 -- a run sends at most a byte an event

@@ -5,7 +5,7 @@ use mathlib.Core.Path.{_≡_, refl, ap, ap₂, _∙_}
 use native.Mathlib.Omega.{arith}
 use borrow.Author.Tests.{eq-eqb, ne-eqb}
 use lib.ListN.{length, take, drop, getD, length-append, length-drop}
-use lib.Seq.{drop-drop, take-all, take-add, drop-at, length-take-le}
+use lib.Seq.{drop-drop, take-all}
 use Rattle.laws.specs.Over.{over}
 use Rattle.laws.proofs.OverLaws.{onto}
 use Rattle.digits.specs.Digits.{decimal}
@@ -55,10 +55,6 @@ four-parts c d e f s l =
       drop-drop (e .width) (c .width + d .width) s,
       take-all (f .width) (drop (c .width + d .width + e .width) s) (simp length-drop (omega arith)),
     )
-
--- the end of the first n + k
-pub drop-of-take : (n k : ℕ) (s : List ℕ) → n ≤ length s → drop n (take (n + k) s) ≡ take k (drop n s)
-drop-of-take n k s h = ap (drop n) (take-add n k s) ∙ drop-at (take n s) (take k (drop n s)) n (length-take-le n s h)
 
 -- ---- a field, by what its reader in the code answers
 

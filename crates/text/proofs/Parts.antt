@@ -6,6 +6,7 @@ use mathlib.Core.Path.{_≡_, refl, sym, ap, _∙_}
 use native.Mathlib.Omega.{arith}
 use lib.ListN.{length, take, drop, getD, length-take, length-drop}
 use lib.Seq.{take-take}
+use Rattle.laws.proofs.ListLaws.{drop-of-take}
 use Rattle.codec.specs.Codec.{got, bad, passed, both, mapped}
 use Rattle.pointed.specs.Pointed.{pointed}
 use Rattle.stop.specs.Stop.{stop}
@@ -19,7 +20,7 @@ use Rattle.serial.specs.Serial.{isSerial, nineOf}
 use Rattle.serial.proofs.Field.{serial-at, nine-is}
 use Rattle.gather.proofs.Laws.{wrong-first, wrong-later, right-both, mapped-wrong, mapped-right, made, remade}
 use Rattle.text.specs.Text.{stopTagged, viewTagged, readFigures}
-use Rattle.text.proofs.Chains.{numbered, three-parts, four-parts, drop-of-take}
+use Rattle.text.proofs.Chains.{numbered, three-parts, four-parts}
 
 front-width : frontText .width ≡ 19
 unfolding frontText stop
