@@ -11,7 +11,8 @@ def started(waits):
     """The driver, and a conversation with it."""
     inner, sends = os.pipe()
     os.set_blocking(inner, waits)
-    program = subprocess.Popen([os.path.join(ROOT, "target", "bin", "driver")], stdin=inner, stdout=subprocess.PIPE)
+    words = [os.path.join(ROOT, "tools", "x86-64"), "run", os.path.join(ROOT, "target", "bin", "driver")]
+    program = subprocess.Popen(words, stdin=inner, stdout=subprocess.PIPE)
     os.close(inner)
     return program, Talk(program.stdout.fileno(), sends)
 

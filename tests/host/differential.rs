@@ -297,8 +297,11 @@ fn with_part(message: &[u8], form: &Form, part: usize, bytes: &[u8]) -> Vec<u8> 
 
 /// Puts LF CR at the end and, in checksum mode, the right checksum before it, so that a reader reaches the contents.
 fn reseal(m: &mut [u8], with_sum: bool) {
-    let Some(contents) = m.len().checked_sub(if with_sum { 4 } else { 2 }) else { return };
-    let (before, end) = m.split_at_mut(contents);
+    let ending = if with_sum { 4 } else { 2 };
+    if m.len() < ending {
+        return;
+    }
+    let (before, end) = m.split_at_mut(m.len() - ending);
     if with_sum {
         end[..2].copy_from_slice(&lens::checksum(before));
     }
@@ -777,11 +780,14 @@ impl Test {
 }
 
 fn main() {
-    let mut arguments = std::env::args().skip(1).map(|word| word.parse::<u64>());
-    let (Ok(seed), Ok(cases)) = (arguments.next().unwrap_or(Ok(1)), arguments.next().unwrap_or(Ok(1_000_000))) else {
-        eprintln!("usage: differential [seed [random cases per entry]]");
-        exit(2);
-    };
+    let mut arguments = std::env::args().skip(1).map(|word| {
+        word.parse::<u64>().unwrap_or_else(|_| {
+            eprintln!("usage: differential [seed [random cases per entry]]");
+            exit(2);
+        })
+    });
+    let seed = arguments.next().unwrap_or(1);
+    let cases = arguments.next().unwrap_or(1_000_000);
     println!("differential: seed {seed}, {cases} random cases per entry beside the exhaustive ones");
     let mut test = Test { seed, random: Random(seed), tallies: Vec::new(), differences: 0 };
 

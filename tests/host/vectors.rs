@@ -291,10 +291,10 @@ fn run(host: &Host, line: &[Word]) -> Option<Vec<Word>> {
 }
 
 fn main() {
-    let Some(path) = std::env::args().nth(1) else {
+    let path = std::env::args().nth(1).unwrap_or_else(|| {
         eprintln!("usage: vectors TABLE");
         exit(2);
-    };
+    });
     let table = std::fs::read_to_string(&path).unwrap_or_else(|error| {
         eprintln!("{path}: {error}");
         exit(2);
@@ -320,10 +320,12 @@ fn main() {
 }
 
 fn shown(words: &Option<Vec<Word>>) -> String {
-    let Some(words) = words else { return "a line of another form".to_string() };
     let word = |word: &Word| match word {
         Plain(word) => word.clone(),
         Bytes(bytes) => format!("[{}]", bytes.iter().map(|b| format!("{b:02X}")).collect::<Vec<_>>().join(" ")),
     };
-    words.iter().map(word).collect::<Vec<_>>().join(" ")
+    match words {
+        Some(words) => words.iter().map(word).collect::<Vec<_>>().join(" "),
+        None => "a line of another form".to_string(),
+    }
 }

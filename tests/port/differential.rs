@@ -328,10 +328,14 @@ impl Tally {
 
 // ---- comparing
 
-/// What the program prints for this input.
+/// What the program prints for this input. Called from the project's root, where the script that runs a program stands.
 fn printed(program: &str, letter: u8, input: &[u8]) -> std::io::Result<Vec<u8>> {
     let letter = char::from(letter).to_string();
-    let mut child = Command::new(program).arg(letter).stdin(Stdio::piped()).stdout(Stdio::piped()).spawn()?;
+    let mut child = Command::new("tools/x86-64")
+        .args(["run", program, &letter])
+        .stdin(Stdio::piped())
+        .stdout(Stdio::piped())
+        .spawn()?;
     let mut stdin = child.stdin.take().expect("its input is piped");
     let input = input.to_vec();
     // A program that ends early is found by what it printed.
