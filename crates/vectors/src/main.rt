@@ -139,9 +139,8 @@ fn say_verdict(v: Verdict) {
     say(b"\n");
 }
 
-fn main() {
-    distance(388);
-    distance(9999999);
+// Document 01's pupils, written and read.
+fn pupils() {
     pupil_both(37);
     pupil_both(-37);
     pupil_both(-999);
@@ -153,6 +152,10 @@ fn main() {
     say_signed(pupil::read_pupil_text(b"E-000"));
     say(b"read E-037: ");
     say_signed(pupil::read_pupil_text(b"E-037"));
+}
+
+// Its zooms, shared pairs and checksums.
+fn zoom_pair_checksum() {
     two_groups(b"zoom ", 1000);
     say(b"read 4f 69 as zoom: ");
     say_field(digits::read_groups(b"\x4f\x69", 1000));
@@ -160,6 +163,9 @@ fn main() {
     pair(105, 0);
     checksum(b"!");
     checksum(b"?");
+}
+
+fn record_r() {
     say(b"record R of document 001\n");
     seven_digits(b'D', 798);
     view(273);
@@ -173,6 +179,9 @@ fn main() {
     two_groups(b"view ", 273);
     pupil_both(23);
     checksum(b"B 4.34");
+}
+
+fn document_000() {
     say(b"example of document 000\n");
     distance(1243);
     distance(309);
@@ -180,6 +189,9 @@ fn main() {
     two_groups(b"aperture ", 849);
     two_groups(b"view ", 455);
     pair(80, 2);
+}
+
+fn stops() {
     say(b"forms of the stop\n");
     stop_text(110);
     stop_text(250);
@@ -189,6 +201,9 @@ fn main() {
     say_field(stop::read_stop_text(b"09."));
     say(b"read 26.: ");
     say_field(stop::read_stop_text(b"26."));
+}
+
+fn frames() {
     say(b"frames\n");
     let mut message = *b"!    ";
     frame::put_ending(&mut message, 1, true);
@@ -202,4 +217,15 @@ fn main() {
     say_verdict(frame::open(b"!MN\r\n", 1, true));
     say(b"checksum L@: ");
     say_verdict(frame::open(b"!L@\n\r", 1, true));
+}
+
+fn main() {
+    distance(388);
+    distance(9999999);
+    pupils();
+    zoom_pair_checksum();
+    record_r();
+    document_000();
+    stops();
+    frames();
 }
