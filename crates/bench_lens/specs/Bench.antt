@@ -1,10 +1,15 @@
--- The settings and the measurement of document 01's session program.
+-- The settings and the measurement of document 01's session program, and the start-up letter that it is given.
 use Prim.Native.Nat.{ℕ}
-use mathlib.Core.List.{[], _∷_}
+use mathlib.Core.List.{List, [], _∷_}
 use lib.IntN.{pos}
 use lib.ListN.{replicate}
 use Rattle.fixed.specs.declared.Settings.{Settings}
 use Rattle.units.specs.declared.Measurement.{Measurement}
+
+-- the start-up letter that a word gives: its first byte, or I (73) where it is empty
+unfoldable pub letterOf : List ℕ → ℕ
+letterOf [] = 73
+letterOf (b ∷ w) = b
 
 -- 4050.0093, BENCH, P, 50, 50, the start-up letter, 95, 4.34, names of spaces, blur circles 250
 abbrev pub benchSettings : ℕ → Settings

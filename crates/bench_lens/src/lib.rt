@@ -1,10 +1,21 @@
-// The bench lens: the settings and the measurement that document 01 gives the session program.
+// The bench lens: the settings and the measurement that document 01 gives the session program, and the
+// start-up letter that a program is given.
 use fixed::Fixed;
 use fixed::Settings;
 use record::Figures;
 use units::Measurement;
 ghost use mathlib.Core.Path.{_≡_};
-ghost use Rattle.bench_lens.specs.Bench.{benchSettings, benchMeasurement};
+ghost use Rattle.bench_lens.specs.Bench.{letterOf, benchSettings, benchMeasurement};
+
+// The start-up letter that a word gives a program: its first byte, or I where it is empty.
+pub fn letter_of(word: &[u8]) -> u8
+    ensures { λ r. ⌜ r ≡ letterOf (now (word .entry)) ⌝ }
+{
+    if word.len() == 0 {
+        return b'I';
+    }
+    word[0]
+}
 
 // 4050.0093, BENCH, P, 50, 50, the start-up letter, 95, 4.34; names of spaces, blur circles of 250.
 pub fn settings(letter: u8) -> Settings

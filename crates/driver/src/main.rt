@@ -1,16 +1,21 @@
-// The driver: it keeps one port and one line collector, and moves bytes between standard input and
-// output. A turn is a slot: its byte is written, and a received byte is taken if one has come. While
-// the lens sends, the driver does not wait for input; where nothing is left to send, it does. So that
-// it can look without waiting, whoever starts it sets O_NONBLOCK on standard input. On an input that
-// waits, slots run until idle, at most 400, before each byte is read. Sixteen slots take at least their
-// time on a line at the port's rate.
+// The session program of document 01, and the driver. It keeps one port, the bench lens, and one line
+// collector, and moves bytes between standard input and output. An argument gives another start-up letter
+// than I.
+//
+// On an input that waits, as a file or a pipe, it is the session program: after the start and after each
+// byte slots run until idle, at most 400. On a line, a turn is a slot: its byte is written, and a received
+// byte is taken if one has come. While the lens sends, the driver does not wait for input; where nothing is
+// left to send, it does; and sixteen slots that send take at least their time at the port's rate. So that
+// it can look without waiting, whoever starts it sets O_NONBLOCK on standard input.
 use libc::EAGAIN;
 use libc::EINTR;
+use libc::STDERR_FILENO;
 use libc::STDIN_FILENO;
 use libc::STDOUT_FILENO;
 use libc::types::timespec;
 use line::Line;
 use port::Port;
+use refusal::Verdict;
 ghost use mathlib.Core.Path.{_≡_};
 ghost use Rattle.collector.specs.Collect.{lineAfter};
 ghost use Rattle.walk.specs.InPlace.{portInPlace};
@@ -134,9 +139,12 @@ fn sixteen_slots(rate: u8) -> timespec {
     }
 }
 
-// After every sixteenth slot that sent, the time of sixteen passes.
+// On a line, after every sixteenth slot that sent, the time of sixteen passes.
 fn paced(desk: Desk) -> Desk {
     let mut after = desk;
+    if desk.waits {
+        return after;
+    }
     let since = desk.since;
     if since < 15 {
         after.since = since + 1;
@@ -207,12 +215,27 @@ fn run(desk: Desk, waiting: i32) {
     }
 }
 
+// The start-up letter that the first argument gives.
+fn start_letter() -> u8 {
+    let mut word = io::buffer();
+    let n = os::arg(1, &mut word);
+    bench_lens::letter_of(&word[..n])
+}
+
 fn main() {
     let handed = Port::start(
         Port::unstarted(),
-        bench_lens::settings(b'I'),
+        bench_lens::settings(start_letter()),
         bench_lens::measurement(),
     );
+    let verdict = handed.verdict;
+    if let Verdict::Refused(_) = verdict {
+        io::write_all(
+            STDERR_FILENO,
+            b"driver: the start-up letter is none of I, M, B, b\n",
+        );
+        return;
+    }
     let port = handed.port;
     let lens = Lens {
         port,

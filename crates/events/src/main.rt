@@ -363,14 +363,11 @@ fn run_all(desk: Desk) {
     }
 }
 
-// The start-up letter: the argument's first byte, or I.
+// The start-up letter that the first argument gives.
 fn start_letter() -> u8 {
     let mut word = io::buffer();
     let n = os::arg(1, &mut word);
-    if n == 0 {
-        return b'I';
-    }
-    word[0]
+    bench_lens::letter_of(&word[..n])
 }
 
 fn main() {

@@ -117,14 +117,14 @@ fn send_text(figures: Figures, serial: &[u8], checksum: bool, out: &mut [u8]) ->
     ensures { λ r. ⌜ Writes textForm Field checksum (withSerial figures (now (serial .entry))) (now (out .entry)) r (now (out .exit)) ⌝ }
 {
     let record = record_given(figures, serial);
-    answer_to(text::write_text(record, checksum, out))
+    answer_to(text_writer::write_text(record, checksum, out))
 }
 
 fn send_packed(figures: Figures, serial: &[u8], checksum: bool, out: &mut [u8]) -> Answer
     ensures { λ r. ⌜ Writes packedForm Field checksum (withSerial figures (now (serial .entry))) (now (out .entry)) r (now (out .exit)) ⌝ }
 {
     let record = record_given(figures, serial);
-    answer_to(packed::write_packed(record, checksum, out))
+    answer_to(packed_writer::write_packed(record, checksum, out))
 }
 
 // Writes a record as text.
@@ -224,7 +224,7 @@ fn lay_record(read: RecordRead, out: &mut [u8]) -> Answer
 pub extern "C" fn heron_read_text(message: &[u8], checksum: bool, out: &mut [u8]) -> Answer
     ensures { λ r. ⌜ Lays recordBytes recordWidth (readOf textForm checksum (now (message .entry))) (now (out .entry)) r (now (out .exit)) ⌝ }
 {
-    lay_record(text::read_text(message, checksum), out)
+    lay_record(text_reader::read_text(message, checksum), out)
 }
 
 // Reads a packed record into the lent memory.
@@ -232,7 +232,7 @@ pub extern "C" fn heron_read_text(message: &[u8], checksum: bool, out: &mut [u8]
 pub extern "C" fn heron_read_packed(message: &[u8], checksum: bool, out: &mut [u8]) -> Answer
     ensures { λ r. ⌜ Lays recordBytes recordWidth (readOf packedForm checksum (now (message .entry))) (now (out .entry)) r (now (out .exit)) ⌝ }
 {
-    lay_record(packed::read_packed(message, checksum), out)
+    lay_record(packed_reader::read_packed(message, checksum), out)
 }
 
 // ---- the fixed data

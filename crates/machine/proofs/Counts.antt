@@ -3,7 +3,7 @@
 use Prim.Native.Nat.{ℕ, _+_, _≤_, _<_}
 use native.Mathlib.Omega.{arith}
 use mathlib.Core.Path.{_≡_, refl, sym, ap, _∙_}
-use mathlib.Core.Bool.{true, false, true≢false}
+use mathlib.Core.Bool.{true, false, true≢false, false≢true}
 use mathlib.Core.Logic.{_⊎_, inl, inr}
 use mathlib.Core.Option.{Option, none, some}
 use mathlib.Core.List.{List, [], _∷_}
@@ -97,10 +97,17 @@ module _ {r : Rules} where
     reached m es g = run-kept (start r m) es (record { good = g; short = greeting-fits })
 
     -- ---- toward the waiting command
+
+    -- a record that is owed was counted
+    owed-counted : (m : Modes) (k : Kind) → owed r m k ≡ true → then-record R k ≡ R
+    owed-counted m neither h = absurd (false≢true h)
+    owed-counted m a-record h = absurd (false≢true h)
+    owed-counted m a-reply h = refl
+
     pub toward-act : {s s′ : State r} {e : Event Measurement} {o : Out r} (c : Command) → Stepped s e s′ o → Kept Good W s → waiting s ≡ some c
         → Acts c e o ⊎ Waits R c s s′ e o
     toward-act c (by-slot goes) h w = inr (record { no-act = refl; still = w; less = omega arith })
-    toward-act c (by-slot (owes {m} on e)) h w = inr (record { no-act = refl; still = w; less = omega (arith, record-fits m (h .good), ap length e) })
+    toward-act c (by-slot (owes {m} {k = k} on e)) h w = inr (record { no-act = refl; still = w; less = omega (arith, record-fits m (h .good), ap length e, owed-counted m k on) })
     toward-act c (by-slot (answers n e)) h w = inl (record { is-slot = refl; acts = ap listed w })
     toward-act c (by-slot (flows n q on e)) h w = inl (record { is-slot = refl; acts = ap listed w })
     toward-act c (by-slot (rests n q off)) h w = inl (record { is-slot = refl; acts = ap listed w })

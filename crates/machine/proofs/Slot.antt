@@ -3,11 +3,11 @@
 use Prim.Native.Nat.{ℕ}
 use native.Mathlib.Omega.{arith}
 use mathlib.Core.Path.{_≡_, refl, ap}
-use mathlib.Core.Bool.{Bool, true, false, cond, false≢true}
+use mathlib.Core.Bool.{Bool, true, false, cond}
 use mathlib.Core.Option.{Option, none, some}
 use mathlib.Core.List.{List, [], _∷_}
 use lib.ListN.{length}
-use Rattle.machine.specs.Machine.{Rules, Kind, neither, a-record, a-reply, replyKind, State, port, modes, Out, begins, sends, idles, Choice, choice, owed, rules, rule2, answer, rule3, sent-one, begin, onSlot, next, shows, slot}
+use Rattle.machine.specs.Machine.{Rules, Kind, neither, a-record, replyKind, State, port, modes, Out, begins, sends, idles, Choice, choice, owed, rules, rule2, answer, rule3, sent-one, begin, onSlot, next, shows, slot}
 use Rattle.machine.specs.Promised.{Sizes, ByRules, IdleFor}
 
 -- two constructors are never equal
@@ -34,8 +34,8 @@ module _ {r : Rules} where
   pub data Slotted : State r → State r → Out r → Type 0 where
     goes : {m : Modes} {w : Option Command} {b : ℕ} {bs : List ℕ} {k : Kind} {l : Line}
         → Slotted (port m w (b ∷ bs) k l) (port (sent-one r m bs) w bs k l) (sends b)
-    owes : {m : Modes} {w : Option Command} {b : ℕ} {bs : List ℕ} {l : Line} → continuous m ≡ true → recordOf m ≡ b ∷ bs
-        → Slotted (port m w [] a-reply l) (port (sent-one r m bs) w bs a-record l) (begins none a-record b bs)
+    owes : {m : Modes} {w : Option Command} {b : ℕ} {bs : List ℕ} {k : Kind} {l : Line} → owed r m k ≡ true → recordOf m ≡ b ∷ bs
+        → Slotted (port m w [] k l) (port (sent-one r m bs) w bs a-record l) (begins none a-record b bs)
     answers : {m : Modes} {c : Command} {b : ℕ} {bs : List ℕ} {k : Kind} {l : Line} → owed r m k ≡ false → replyTo m c ≡ b ∷ bs
         → Slotted (port m (some c) [] k l) (port (sent-one r (act m c) bs) none bs (replyKind (counts m c)) l) (begins (some c) (replyKind (counts m c)) b bs)
     flows : {m : Modes} {w : Option Command} {b : ℕ} {bs : List ℕ} {k : Kind} {l : Line}
@@ -71,17 +71,15 @@ module _ {r : Rules} where
     second-rule m none k l g n = third-rule m none k l _ _ g n tt refl refl
     second-rule m (some c) k l g n = command m c k l _ g n refl
 
-    owing : (m : Modes) (w : Option Command) (l : Line) (rec : List ℕ) → Good m → continuous m ≡ true → recordOf m ≡ rec
-        → Chosen (port m w [] a-reply l) (choice none m w a-record rec) a-reply l
+    owing : (m : Modes) (w : Option Command) (k : Kind) (l : Line) (rec : List ℕ) → Good m → owed r m k ≡ true → recordOf m ≡ rec
+        → Chosen (port m w [] k l) (choice none m w a-record rec) k l
     unfolding begin
-    owing m w l [] g on e = absurd (omega (arith, record-some m g, ap length e))
-    owing m w l (b ∷ bs) g on e = owes on e
+    owing m w k l [] g on e = absurd (omega (arith, record-some m g, ap length e))
+    owing m w k l (b ∷ bs) g on e = owes on e
 
     first-rule : (m : Modes) (w : Option Command) (k : Kind) (l : Line) (t : Bool) → Good m → owed r m k ≡ t
         → Chosen (port m w [] k l) (cond t (choice none m w a-record (recordOf m)) (rule2 r m w)) k l
-    first-rule m w a-reply l true g e = owing m w l _ g e refl
-    first-rule m w a-record l true g e = absurd (false≢true e)
-    first-rule m w neither l true g e = absurd (false≢true e)
+    first-rule m w k l true g e = owing m w k l _ g e refl
     first-rule m w k l false g e = second-rule m w k l g e
 
     pub slotted : (s : State r) → Good (modes s) → Slotted s (next s slot) (shows s slot)

@@ -1,6 +1,5 @@
-// Replies and records as messages: each built in a fresh buffer of zeros and ended under the modes
-// after the command.
-use fixed::Fixed;
+// The table of commands: what each does to the source, and its reply, a message under the modes after the
+// command.
 use line::Command;
 use line::Line;
 use record::Record;
@@ -13,18 +12,15 @@ ghost use mathlib.Core.Path.{_≡_};
 ghost use mathlib.Core.Bool.{true};
 ghost use mathlib.Core.List.{[], _∷_};
 ghost use Prim.Native.Nat.{_+_, _≤_};
-ghost use lib.ListN.{length};
 ghost use Rattle.refusal.specs.declared.Verdict.the-variants.{Done};
-ghost use Rattle.digits.specs.Digits.{decimal};
 ghost use Rattle.frame.specs.Frame.{framed};
-ghost use Rattle.record.specs.Forms.{textForm, packedForm};
 ghost use Rattle.fixed.specs.Form.{fixedForm};
-ghost use Rattle.units.specs.Measurement.{measurementVerdict};
+ghost use Rattle.units.specs.Measurement.{measurementVerdict, degrees};
 ghost use Rattle.line.specs.Command.{InRange};
 ghost use Rattle.line.specs.declared.Command.the-variants as lines;
 ghost use Rattle.state.specs.State.{messageOf, validSource};
 ghost use Rattle.rules.specs.Does as table;
-ghost use Rattle.reply.specs.Reply.{actedOf, closedOf, shownOf};
+ghost use Rattle.reply.specs.Reply.{actedOf};
 
 // A command acted on: the source after it, and the message of its reply, of length 0 where it has none.
 pub struct Acted {
@@ -32,92 +28,7 @@ pub struct Acted {
     pub message: Message,
 }
 
-// ---- messages
-
-// The first n bytes of a buffer, ended, about to be sent.
-fn closed(bytes: [u8; 128], n: usize, checksum: bool) -> Message
-    requires { ⌜ n + 4 ≤ 128 ⌝ }
-    ensures { λ r. ⌜ r ≡ closedOf bytes n checksum ⌝ }
-{
-    let mut buffer = bytes;
-    frame::put_ending(&mut buffer, n, checksum);
-    Message {
-        bytes: buffer,
-        len: n + frame::ending_width(checksum),
-        at: 0,
-    }
-}
-
-// One byte.
-fn letter(byte: u8, checksum: bool) -> Message
-    ensures { λ r. ⌜ r ≡ messageOf (framed checksum (byte ∷ [])) ⌝ }
-{
-    let mut bytes = [0u8; 128];
-    lent::put_byte(&mut bytes, 0, byte);
-    closed(bytes, 1, checksum)
-}
-
-// Two bytes and a text.
-fn named(first: u8, second: u8, text: &[u8], checksum: bool) -> Message
-    requires { ⌜ length (now text) ≤ 64 ⌝ }
-    ensures { λ r. ⌜ r ≡ messageOf (framed checksum (first ∷ second ∷ now (text .entry))) ⌝ }
-{
-    let mut bytes = [0u8; 128];
-    lent::put_pair(&mut bytes, 0, first, second);
-    lent::put_text(&mut bytes, 2, text);
-    closed(bytes, 2 + text.len(), checksum)
-}
-
-// B, a space and the version.
-fn version_message(fixed: Fixed, checksum: bool) -> Message
-    ensures { λ r. ⌜ r ≡ messageOf (framed checksum (66 ∷ 32 ∷ fixed .version)) ⌝ }
-{
-    let text = fixed.version;
-    named(b'B', b' ', &text, checksum)
-}
-
-// The fixed data.
-fn fixed_message(fixed: Fixed, checksum: bool) -> Message
-    ensures { λ r. ⌜ r ≡ messageOf (framed checksum (fixedForm .print fixed)) ⌝ }
-{
-    let mut bytes = [0u8; 128];
-    nwriter::put_fixed(&mut bytes, fixed);
-    closed(bytes, 65, checksum)
-}
-
-// The degrees that are shown: below 0 none, above 99 no more than 99.
-fn shown(t: i32) -> u32
-    ensures { λ r. ⌜ r ≡ shownOf t ⌝ }
-{
-    if sign::is_below(t) {
-        return 0;
-    }
-    let n = sign::size_of(t);
-    if n <= 99 {
-        return n;
-    }
-    99
-}
-
-// P and two digits.
-fn degrees_message(t: i32, checksum: bool) -> Message
-    ensures { λ r. ⌜ r ≡ messageOf (framed checksum (80 ∷ table.degrees t)) ⌝ }
-{
-    let mut bytes = [0u8; 128];
-    codec::put_tagged(&mut bytes, 0, b'P', 2, shown(t));
-    closed(bytes, 3, checksum)
-}
-
-// A letter, 0.0 and the three digits of a blur circle.
-fn blur_message(letter: u8, circle: u16, checksum: bool) -> Message
-    ensures { λ r. ⌜ r ≡ messageOf (framed checksum (letter ∷ 48 ∷ 46 ∷ 48 ∷ decimal 3 circle)) ⌝ }
-{
-    let head = [letter, b'0', b'.', b'0'];
-    let mut bytes = [0u8; 128];
-    lent::put_text(&mut bytes, 0, &head);
-    digits::put_decimal(&mut bytes, 4, 3, circle as u32);
-    closed(bytes, 7, checksum)
-}
+// ---- records
 
 // The record of the measurement in the display unit.
 fn record_now(source: Source) -> Record
@@ -132,37 +43,18 @@ fn record_now(source: Source) -> Record
     units::record_of(measurement, modes.unit, serial)
 }
 
-// The text record.
-fn text_message(source: Source) -> Message
-    requires { ⌜ measurementVerdict (source .measurement) ≡ Done ⌝ }
-    ensures { λ r. ⌜ r ≡ messageOf (framed (source .modes .checksum) (textForm .print (table.recordNow source))) ⌝ }
-{
-    let modes = source.modes;
-    let mut bytes = [0u8; 128];
-    text::put_text_record(&mut bytes, record_now(source));
-    closed(bytes, 74, modes.checksum)
-}
-
-// The packed record.
-fn packed_message(source: Source) -> Message
-    requires { ⌜ measurementVerdict (source .measurement) ≡ Done ⌝ }
-    ensures { λ r. ⌜ r ≡ messageOf (framed (source .modes .checksum) (packedForm .print (table.recordNow source))) ⌝ }
-{
-    let modes = source.modes;
-    let mut bytes = [0u8; 128];
-    packed::put_packed_record(&mut bytes, record_now(source));
-    closed(bytes, 39, modes.checksum)
-}
-
 // The record in this form; where continuous sending is off, the text.
 fn record_in(source: Source, form: Sending) -> Message
     requires { ⌜ measurementVerdict (source .measurement) ≡ Done ⌝ }
     ensures { λ r. ⌜ r ≡ messageOf (framed (source .modes .checksum) (table.recordIs form source)) ⌝ }
 {
+    let record = record_now(source);
+    let modes = source.modes;
+    let checksum = modes.checksum;
     match form {
-        Sending::Off => text_message(source),
-        Sending::Text => text_message(source),
-        Sending::Packed => packed_message(source),
+        Sending::Off => messages::text_message(record, checksum),
+        Sending::Text => messages::text_message(record, checksum),
+        Sending::Packed => messages::packed_message(record, checksum),
     }
 }
 
@@ -185,7 +77,7 @@ fn answer(source: Source, byte: u8) -> Acted
     ensures { λ r. ⌜ r ≡ actedOf (table.replies source (byte ∷ [])) ⌝ }
 {
     let modes = source.modes;
-    let message = letter(byte, modes.checksum);
+    let message = messages::letter_message(byte, modes.checksum);
     Acted { source, message }
 }
 
@@ -195,8 +87,9 @@ fn version(source: Source) -> Acted
 {
     let settings = source.settings;
     let fixed = settings.fixed;
+    let version = fixed.version;
     let modes = source.modes;
-    let message = version_message(fixed, modes.checksum);
+    let message = messages::version_message(version, modes.checksum);
     Acted { source, message }
 }
 
@@ -205,9 +98,9 @@ fn maker(source: Source) -> Acted
     ensures { λ r. ⌜ r ≡ actedOf (table.replies source (75 ∷ 51 ∷ source .settings .maker)) ⌝ }
 {
     let settings = source.settings;
-    let text = settings.maker;
+    let maker = settings.maker;
     let modes = source.modes;
-    let message = named(b'K', b'3', &text, modes.checksum);
+    let message = messages::maker_message(maker, modes.checksum);
     Acted { source, message }
 }
 
@@ -216,9 +109,9 @@ fn type_name(source: Source) -> Acted
     ensures { λ r. ⌜ r ≡ actedOf (table.replies source (75 ∷ 52 ∷ source .settings .«type_name»)) ⌝ }
 {
     let settings = source.settings;
-    let text = settings.type_name;
+    let name = settings.type_name;
     let modes = source.modes;
-    let message = named(b'K', b'4', &text, modes.checksum);
+    let message = messages::type_message(name, modes.checksum);
     Acted { source, message }
 }
 
@@ -238,18 +131,18 @@ fn fixed_data(source: Source) -> Acted
     let settings = source.settings;
     let fixed = settings.fixed;
     let modes = source.modes;
-    let message = fixed_message(fixed, modes.checksum);
+    let message = messages::fixed_message(fixed, modes.checksum);
     Acted { source, message }
 }
 
 // P: the temperature.
 fn temperature(source: Source) -> Acted
-    ensures { λ r. ⌜ r ≡ actedOf (table.replies source (80 ∷ table.degrees (source .measurement .temperature))) ⌝ }
+    ensures { λ r. ⌜ r ≡ actedOf (table.replies source (80 ∷ degrees (source .measurement .temperature))) ⌝ }
 {
     let measurement = source.measurement;
     let t = measurement.temperature;
     let modes = source.modes;
-    let message = degrees_message(t, modes.checksum);
+    let message = messages::degrees_message(t, modes.checksum);
     Acted { source, message }
 }
 
@@ -264,7 +157,7 @@ fn film(source: Source, letter: u8, n: u8) -> Acted
     after.modes = modes;
     let settings = source.settings;
     let blur = settings.blur;
-    let message = blur_message(letter, blur[n as usize], modes.checksum);
+    let message = messages::blur_message(letter, blur[n as usize], modes.checksum);
     Acted {
         source: after,
         message,
@@ -280,9 +173,7 @@ fn rate(source: Source, n: u8) -> Acted
     modes.next_rate = n;
     let mut after = source;
     after.modes = modes;
-    let digit = 48 + n;
-    let text = [digit, b'!'];
-    let message = named(b'K', b'b', &text, modes.checksum);
+    let message = messages::rate_message(48 + n, modes.checksum);
     Acted {
         source: after,
         message,
@@ -321,7 +212,7 @@ fn changed(source: Source, modes: Modes) -> Acted
 {
     let mut after = source;
     after.modes = modes;
-    let message = letter(b'!', modes.checksum);
+    let message = messages::letter_message(b'!', modes.checksum);
     Acted {
         source: after,
         message,
@@ -429,24 +320,8 @@ fn is_n(command: Command) -> bool
     ensures { λ r. ⌜ r ≡ table.isN command ⌝ }
 {
     match command {
-        Command::B => false,
-        Command::C => false,
-        Command::D => false,
-        Command::G => false,
-        Command::H => false,
-        Command::Ka => false,
-        Command::Kb(_) => false,
-        Command::Kc => false,
-        Command::Kd => false,
-        Command::K3 => false,
-        Command::K4 => false,
         Command::N => true,
-        Command::P => false,
-        Command::V => false,
-        Command::W(_) => false,
-        Command::X => false,
-        Command::Y => false,
-        Command::Unknown => false,
+        _ => false,
     }
 }
 

@@ -21,12 +21,13 @@ use Rattle.fixed.specs.Fixed.{textOk, fixedLowest, settingsLowest}
 use Rattle.fixed.specs.Form.{fixedForm}
 use Rattle.fixed.specs.declared.Settings.{Settings}
 use Rattle.fixed.proofs.Exact.{fixed-form-exact, fixed-lowest, fixed-form-width}
+use Rattle.units.specs.Measurement.{degrees}
 use Rattle.units.proofs.Ranges.{sendable-in-either-unit}
 use Rattle.state.specs.declared.Source.{Source}
 use Rattle.state.specs.declared.Sending.{Sending}
 use Rattle.state.specs.declared.Sending.the-variants as sending
 use Rattle.state.specs.State.{validSource}
-use Rattle.rules.specs.Does.{recordNow, degrees, blurOf, recordIs, recordMessage}
+use Rattle.rules.specs.Does.{recordNow, blurOf, recordIs, recordMessage}
 use Rattle.rules.specs.Lens.{longestRecord}
 use Rattle.rules.proofs.Valid.{Valid, valid-told}
 
@@ -75,7 +76,6 @@ items-told s h =
 -- ---- the numbers
 
 pub degrees-long : (t : ℤ) → length (degrees t) ≡ 2
-unfolding degrees
 degrees-long t = length-digits 10 48 (omega arith) 2 _
 
 pub blur-long : (n : ℕ) (s : Settings) → length (blurOf n s) ≡ 6

@@ -1,14 +1,39 @@
 -- The table says what the readings ask, for every source: each by computing its line. Assumes nothing.
-use mathlib.Core.Bool.{Bool}
-use mathlib.Core.Path.{refl, ap}
-use borrow.Author.Tests.{lt-leb}
+use mathlib.Core.Bool.{Bool, false}
+use mathlib.Core.Path.{_≡_, refl, ap}
+use borrow.Author.Tests.{le-leb, lt-leb}
 use Rattle.digits.specs.Digits.{digits}
 use Rattle.frame.specs.Frame.{xorFrom, sumOf, ending}
+use Rattle.line.specs.declared.Command.{Command}
+use Rattle.line.specs.declared.Command.the-variants.{B, C, D, G, H, Ka, Kb, Kc, Kd, K3, K4, N, P, «V», W, X, Y, Unknown}
 use Rattle.state.specs.declared.State.{State}
 use Rattle.state.specs.declared.Sending.{Sending}
 use Rattle.state.specs.declared.Source.{Source}
-use Rattle.rules.specs.Does.{withModes, turned, degrees, replies, silent, runs, readies}
+use Rattle.units.specs.Measurement.{shown}
+use Rattle.rules.specs.Does.{withModes, turned, replies, silent, runs, isN, readies}
 use Rattle.rules.specs.Readings.{Untouched, Readings}
+
+-- a command but N is not N
+pub not-n : (c : Command) → (c ≡ N → ⊥) → isN c ≡ false
+unfolding isN
+not-n N n = absurd (n refl)
+not-n B n = refl
+not-n C n = refl
+not-n D n = refl
+not-n G n = refl
+not-n H n = refl
+not-n Ka n = refl
+not-n (Kb r) n = refl
+not-n Kc n = refl
+not-n Kd n = refl
+not-n K3 n = refl
+not-n K4 n = refl
+not-n P n = refl
+not-n «V» n = refl
+not-n (W f) n = refl
+not-n X n = refl
+not-n Y n = refl
+not-n Unknown n = refl
 
 -- a switch touches four of the modes only
 pub untouched : (s : Source) (state : State) (x : Sending) (checksum inhibit : Bool)
@@ -27,7 +52,7 @@ pub untouched : (s : Source) (state : State) (x : Sending) (checksum inhibit : B
 untouched s state x checksum inhibit = record { settings = refl; measurement = refl; film = refl; unit = refl; rate = refl; next-rate = refl }
 
 pub readings : (s : Source) → Readings s
-unfolding turned degrees digits replies silent runs readies xorFrom sumOf ending
+unfolding turned shown digits replies silent runs isN readies xorFrom sumOf ending
 readings s = record {
   g-answers = refl;
   h-answers = refl;
@@ -45,8 +70,12 @@ readings s = record {
   w-film = λ n. refl;
   rate-waits = λ n. refl;
   rate-moves = λ n. refl;
+  mild = λ n h. rw (le-leb n 99 h);
   cold = λ n. refl;
   hot = λ n h. rw (lt-leb n 99 h);
   inhibited = λ e. rw e;
-  ready-stays = λ c e. rw e;
+  ready-wakes = refl;
+  ready-n = refl;
+  ready-stays = λ c n. rw (not-n c n);
+  ready-answers = λ c n. rw (not-n c n);
 }

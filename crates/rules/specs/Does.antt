@@ -2,10 +2,8 @@
 use Prim.Native.Nat.{ℕ, _+_}
 use mathlib.Core.Bool.{Bool, true, false, _||_, cond}
 use mathlib.Core.List.{List, [], _∷_}
-use lib.Dec.{leb, eqb}
-use lib.IntN.{ℤ}
+use lib.Dec.{eqb}
 use lib.ListN.{getD}
-use Rattle.sign.specs.Sign.{size, below0}
 use Rattle.digits.specs.Digits.{decimal}
 use Rattle.frame.specs.Frame.{framed}
 use Rattle.record.specs.Forms.{textForm, packedForm}
@@ -13,7 +11,7 @@ use Rattle.record.specs.declared.Record.{Record}
 use Rattle.fixed.specs.Form.{fixedForm}
 use Rattle.fixed.specs.declared.Fixed.{Fixed}
 use Rattle.fixed.specs.declared.Settings.{Settings}
-use Rattle.units.specs.Measurement.{recordIn}
+use Rattle.units.specs.Measurement.{recordIn, degrees}
 use Rattle.line.specs.declared.Line.{Line}
 use Rattle.line.specs.Command.{commandOf}
 use Rattle.line.specs.declared.Command.{Command}
@@ -88,10 +86,6 @@ unitWith u to s = record { settings = letterNow to (s .settings); measurement = 
 -- the record of the measurement in the display unit, with the serial of the settings
 abbrev pub recordNow : Source → Record
 recordNow s = recordIn (s .modes .unit) (s .measurement) (s .settings .fixed .serial)
-
--- P's two digits: below 0 sends 00, above 99 sends 99
-unfoldable pub degrees : ℤ → List ℕ
-degrees t = decimal 2 (cond (below0 t) 0 (cond (leb (size t) 99) (size t) 99))
 
 -- 0.0 and three digits: the blur circle of a film
 abbrev pub blurOf : ℕ → Settings → List ℕ

@@ -1,14 +1,19 @@
 -- Readings of document 01's table that have gone wrong, and the equations that shut them out.
-use Prim.Native.Nat.{ℕ, _<_}
+use Prim.Native.Nat.{ℕ, _≤_, _<_}
 use mathlib.Core.Bool.{true, false}
 use mathlib.Core.List.{[], _∷_}
 use mathlib.Core.Path.{_≡_}
 use lib.IntN.{pos, negsuc}
+use Rattle.digits.specs.Digits.{decimal}
+use Rattle.frame.specs.Frame.{framed}
+use Rattle.fixed.specs.Form.{fixedForm}
 use Rattle.line.specs.declared.Command.{Command}
-use Rattle.line.specs.declared.Command.the-variants.{C, G, H, Ka, Kb, Kc, «V», W, X, Y, Unknown}
+use Rattle.line.specs.declared.Command.the-variants.{C, G, H, Ka, Kb, Kc, N, «V», W, X, Y, Unknown}
+use Rattle.state.specs.declared.State.the-variants.{Running}
 use Rattle.state.specs.declared.Sending.the-variants as sending
 use Rattle.state.specs.declared.Source.{Source}
-use Rattle.rules.specs.Does.{degrees, runs, isN, readies}
+use Rattle.units.specs.Measurement.{degrees}
+use Rattle.rules.specs.Does.{runs, readies}
 use Rattle.rules.specs.Lens.{lens}
 
 -- what no switch touches
@@ -48,10 +53,14 @@ pub record Readings (s : Source) : Type 0 where
   -- the rate number changes at the end of Kb's reply, not before
   pub rate-waits : (n : ℕ) → runs s (Kb n) .source .modes .rate ≡ s .modes .rate
   pub rate-moves : (n : ℕ) → lens .ended (runs s (Kb n) .source) .modes .rate ≡ n
-  -- below 0 sends 00, above 99 sends 99
+  -- two digits; below 0 sends 00, above 99 sends 99
+  pub mild : (n : ℕ) → n ≤ 99 → degrees (pos n) ≡ decimal 2 n
   pub cold : (n : ℕ) → degrees (negsuc n) ≡ 48 ∷ 48 ∷ []
   pub hot : (n : ℕ) → 99 < n → degrees (pos n) ≡ 57 ∷ 57 ∷ []
   -- inhibited, an unknown command has no reply
   pub inhibited : s .modes .inhibit ≡ true → runs s Unknown .reply ≡ []
-  -- in ready all but N do nothing
-  pub ready-stays : (c : Command) → isN c ≡ false → readies s c .source ≡ s
+  -- in ready N answers the fixed data and moves to running; everything else answers < and does nothing
+  pub ready-wakes : readies s N .source .modes .state ≡ Running
+  pub ready-n : readies s N .reply ≡ framed (s .modes .checksum) (fixedForm .print (s .settings .fixed))
+  pub ready-stays : (c : Command) → (c ≡ N → ⊥) → readies s c .source ≡ s
+  pub ready-answers : (c : Command) → (c ≡ N → ⊥) → readies s c .reply ≡ framed (s .modes .checksum) (60 ∷ [])

@@ -1,10 +1,12 @@
--- What a measurement may hold, and the record that it gives in a display unit.
+-- What a measurement may hold, how P shows its temperature, and the record that it gives in a display unit.
 use Prim.Native.Nat.{ℕ}
 use mathlib.Core.Bool.{Bool, _&&_, cond}
 use mathlib.Core.List.{List}
-use lib.Dec.{eqb}
+use lib.Dec.{leb, eqb}
 use lib.IntN.{ℤ, pos, negsuc}
 use lib.Signed.{leZ}
+use Rattle.digits.specs.Digits.{decimal}
+use Rattle.sign.specs.Sign.{size, below0}
 use Rattle.refusal.specs.declared.Refusal.the-variants.{Field}
 use Rattle.refusal.specs.declared.Verdict.{Verdict}
 use Rattle.refusal.specs.declared.Verdict.the-variants.{Done, Refused}
@@ -18,6 +20,13 @@ use Rattle.units.specs.declared.Measurement.{Measurement}
 -- -99..199 degrees
 abbrev pub temperatureOk : ℤ → Bool
 temperatureOk t = leZ (negsuc 98) t && leZ t (pos 199)
+
+-- P's two digits: below 0 sends 00, above 99 sends 99
+unfoldable pub shown : ℤ → ℕ
+shown t = cond (below0 t) 0 (cond (leb (size t) 99) (size t) 99)
+
+abbrev pub degrees : ℤ → List ℕ
+degrees t = decimal 2 (shown t)
 
 -- the lowest of fields 1 to 11 out of its unit's range, then 13 for the temperature; 0 where there is none
 unfoldable pub measurementLowest : Measurement → ℕ

@@ -1,23 +1,14 @@
--- `reply::maker` meets its contract: the name beside the source; it is short, by type. Assumes nothing.
-use mathlib.Core.Path.{_≡_}
-use native.Mathlib.Omega.{arith}
-use lib.ListN.{length}
+-- `reply::maker` meets its contract: the maker's name beside the source. Assumes nothing.
 use Rattle.reply.proofs.Laws.{answered}
 use borrow.Author.Needs.{needs}
 use Rattle.reply.proofs.maker.Statement.{statement}
 use Rattle.reply.proofs.maker.Tie as tie
 
-long : (b : tie.Start) → length (b .args .source .settings .maker) ≡ 15
-long b = search needs
-
-slice-aggregate-named : tie.Need-slice-aggregate-named
-slice-aggregate-named c = search needs
-
-named-requires : tie.Need-named-requires
-named-requires c κs = omega (arith, long (c .before .before .before .before))
+maker-message-requires : tie.Need-maker-message-requires
+maker-message-requires c κs = search needs
 
 returns : tie.Need-returns
-returns c = answered _ _ (c .named .ensures)
+returns c = answered _ _ (c .maker-message .ensures)
 
 pub maker-spec : {M : Type 1} → statement M
-maker-spec = tie.close (tie.spec slice-aggregate-named named-requires returns)
+maker-spec = tie.close (tie.spec maker-message-requires returns)

@@ -7,7 +7,7 @@ use mir.Val.{toZ, ofZ}
 use mir.Facts.{toZ-ofZ}
 use Rattle.frame.specs.Frame.{framed}
 use Rattle.state.specs.State.{messageOf}
-use Rattle.rules.specs.Does.{degrees}
+use Rattle.units.specs.Measurement.{degrees}
 use Rattle.reply.proofs.Laws.{answered}
 use borrow.Author.Needs.{needs}
 use Rattle.reply.proofs.temperature.Statement.{statement}

@@ -1,3 +1,0 @@
-pub mod Written
-pub mod Parts
-pub mod Unique

@@ -1,4 +1,0 @@
-pub mod Chains
-pub mod Written
-pub mod Parts
-pub mod Unique

@@ -1,0 +1,156 @@
+-- `text_reader::read_back` meets its contract: the first wrong field of three, or all of them. Assumes nothing.
+use Prim.Native.Nat.{ℕ}
+use mathlib.Core.List.{List}
+use mathlib.Core.Path.{_≡_, sym, ap, _∙_}
+use lib.ListN.{take, drop}
+use Rattle.codec.specs.Codec.{got, fieldSays}
+use Rattle.pupil.specs.Pupil.{pupilText, pupilSays}
+use Rattle.gather.specs.Gather.{threeSays}
+use Rattle.gather.proofs.Laws.{answered, wrong-first, wrong-later, right-both}
+use Rattle.text_reader.specs.Text.{viewTagged}
+use Rattle.text_reader.proofs.Chains.{number-says}
+use Rattle.text_reader.proofs.Parts.{back-parts, pupil-says}
+use mir.Syntax.{w32}
+use mir.Val.{toZ, ofZ}
+use mir.Facts.{toZ-ofZ}
+use borrow.Author.Needs.{needs}
+use Rattle.text_reader.proofs.read_back.Statement.{statement}
+use Rattle.text_reader.proofs.read_back.Tie as tie
+
+-- the message, and what each field gave
+abbrev S1 : tie.After-view → List ℕ
+S1 d = d .before .before .before .before .before .args .s .now
+
+abbrev S2 : tie.After-pupil → List ℕ
+S2 d = S1 (d .before .before .before .before .before)
+
+view-found : (d : tie.After-view) → viewTagged .parse (take 6 (S1 d)) ≡ got (d .view .given .0 .0)
+unfolding fieldSays
+view-found d = answered (fieldSays 9) (d .before .before .read-view .ensures) (d .view .given .1)
+
+pupil-found : (d : tie.After-pupil) → pupilText .parse (take 5 (drop 6 (S2 d))) ≡ got (d .pupil .given .0 .0)
+unfolding pupilSays
+pupil-found d = answered pupilSays (pupil-says _ (search needs) (d .before .before .read-pupil-text .ensures)) (d .pupil .given .1)
+
+sub-read-view : tie.Need-sub-read-view
+sub-read-view c = search needs
+
+part-read-view-start : tie.Need-part-read-view-start
+part-read-view-start c = search needs
+
+part-read-view-end : tie.Need-part-read-view-end
+part-read-view-end c = search needs
+
+read-view-requires : tie.Need-read-view-requires
+read-view-requires c κs = search needs
+
+enum-known-view : tie.Need-enum-known-view
+enum-known-view c = search needs
+
+enum-told : tie.Need-enum-told
+enum-told c = search needs
+
+returns : tie.Need-returns
+unfolding threeSays fieldSays pupilSays
+returns c =
+    let r = c .before .before in
+    let b = r .before .before .before in
+    sym
+    (back-parts (b .args .s .now) (b .pre)
+    ∙ wrong-first _ (answered (fieldSays 9) (r .read-view .ensures) (c .enum-told .given .1)))
+
+sub-read-pupil-text : tie.Need-sub-read-pupil-text
+sub-read-pupil-text c = search needs
+
+part-read-pupil-text-start : tie.Need-part-read-pupil-text-start
+part-read-pupil-text-start c = search needs
+
+part-read-pupil-text-end : tie.Need-part-read-pupil-text-end
+part-read-pupil-text-end c = search needs
+
+read-pupil-text-requires : tie.Need-read-pupil-text-requires
+read-pupil-text-requires c κs = search needs
+
+enum-known-pupil : tie.Need-enum-known-pupil
+enum-known-pupil c = search needs
+
+enum-told-2 : tie.Need-enum-told-2
+enum-told-2 c = search needs
+
+returns-2 : tie.Need-returns-2
+unfolding threeSays fieldSays pupilSays
+returns-2 c =
+    let r = c .before .before in
+    let d1 = r .before .before .before in
+    let b = d1 .before .before .before .before .before in
+    sym
+    (back-parts (b .args .s .now) (b .pre)
+    ∙ wrong-later (view-found d1) (wrong-first _ (answered pupilSays (pupil-says _ (search needs) (r .read-pupil-text .ensures)) (c .enum-told2 .given .1))))
+
+sub-read-tagged : tie.Need-sub-read-tagged
+sub-read-tagged c = search needs
+
+part-read-tagged-start : tie.Need-part-read-tagged-start
+part-read-tagged-start c = search needs
+
+part-read-tagged-end : tie.Need-part-read-tagged-end
+part-read-tagged-end c = search needs
+
+read-tagged-requires : tie.Need-read-tagged-requires
+read-tagged-requires c κs = search needs
+
+enum-known-zoom : tie.Need-enum-known-zoom
+enum-known-zoom c = search needs
+
+enum-told-3 : tie.Need-enum-told-3
+enum-told-3 c = search needs
+
+returns-3 : tie.Need-returns-3
+unfolding threeSays fieldSays pupilSays
+returns-3 c =
+    let r = c .before .before in
+    let d2 = r .before .before .before in
+    let d1 = d2 .before .before .before .before .before in
+    let b = d1 .before .before .before .before .before in
+    sym
+    (back-parts (b .args .s .now) (b .pre)
+    ∙ wrong-later (view-found d1) (wrong-later (pupil-found d2) (answered (fieldSays 11) (number-says 122 11 4 1000 _ (r .read-tagged .ensures)) (c .enum-told3 .given .1))))
+
+returns-4 : tie.Need-returns-4
+unfolding threeSays fieldSays pupilSays
+returns-4 c =
+    let d3 = c .before in
+    let d2 = d3 .before .before .before .before .before in
+    let d1 = d2 .before .before .before .before .before in
+    let b = d1 .before .before .before .before .before in
+    let same : toZ w32 (ofZ w32 (d2 .pupil .given .0 .0)) ≡ d2 .pupil .given .0 .0 = toZ-ofZ (search needs) in
+    sym
+    (back-parts (b .args .s .now) (b .pre)
+    ∙ right-both (view-found d1) (right-both (pupil-found d2 ∙ ap got (sym same)) (answered (fieldSays 11) (number-says 122 11 4 1000 _ (d3 .before .before .read-tagged .ensures)) (d3 .zoom .given .1))))
+
+pub read-back-spec : {M : Type 1} → statement M
+read-back-spec =
+    tie.close
+    (tie.spec
+    sub-read-view
+    part-read-view-start
+    part-read-view-end
+    read-view-requires
+    enum-known-view
+    enum-told
+    returns
+    sub-read-pupil-text
+    part-read-pupil-text-start
+    part-read-pupil-text-end
+    read-pupil-text-requires
+    enum-known-pupil
+    enum-told-2
+    returns-2
+    sub-read-tagged
+    part-read-tagged-start
+    part-read-tagged-end
+    read-tagged-requires
+    enum-known-zoom
+    enum-told-3
+    returns-3
+    returns-4)
