@@ -6,7 +6,8 @@
 // byte slots run until idle, at most 400. On a line, a turn is a slot: its byte is written, and a received
 // byte is taken if one has come. While the lens sends, the driver does not wait for input; where nothing is
 // left to send, it does; and sixteen slots that send take at least their time at the port's rate. So that
-// it can look without waiting, whoever starts it sets O_NONBLOCK on standard input.
+// it can look without waiting, whoever starts it sets O_NONBLOCK on standard input. Until a look has come
+// back empty, it takes its input for one that waits.
 use libc::EAGAIN;
 use libc::EINTR;
 use libc::STDERR_FILENO;
