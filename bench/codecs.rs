@@ -2,7 +2,7 @@
 //! memory are compared, on messages and numbers in range and on damaged ones; then the ones in range are timed, in turns.
 //!
 //! codecs time     one line an entry: its name, then the medians of ours and of plain Rust in nanoseconds a call, and of the ratio
-//! codecs count    runs each entry once on each input in range, to be counted by callgrind; prints nothing
+//! codecs count    runs each entry once on each input in range, to be counted; prints nothing
 
 mod heron;
 mod plain;
@@ -12,7 +12,6 @@ mod random;
 
 use plain::{Fields, Fixed, Refusal};
 use random::Random;
-use std::hint::black_box;
 use std::process::exit;
 use std::time::{Duration, Instant};
 
@@ -162,6 +161,11 @@ fn of_plain(answer: Result<usize, Refusal>) -> Outcome {
 enum Mode {
     Time,
     Count,
+}
+
+/// A value that the compiler must make, and knows nothing of. (`std::hint::black_box` is not in every rustc that builds this.)
+fn black_box<T: Copy>(value: T) -> T {
+    unsafe { std::ptr::read_volatile(&value) }
 }
 
 /// Nanoseconds a call over the inputs, gone through `turns` times.

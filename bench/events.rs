@@ -40,10 +40,10 @@ use std::process::exit;
 
 fn main() -> std::io::Result<()> {
     let letter = std::env::args().nth(1).and_then(|word| word.bytes().next()).unwrap_or(b'I');
-    let Ok(mut lens) = Lens::start(letter) else {
+    let mut lens = Lens::start(letter).unwrap_or_else(|_| {
         eprintln!("events: the start-up letter is none of I, M, B, b");
-        exit(1);
-    };
+        exit(1)
+    });
     let mut input = Vec::new();
     std::io::stdin().read_to_end(&mut input)?;
     let mut output = Vec::new();

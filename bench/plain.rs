@@ -110,7 +110,8 @@ fn open<const CONTENTS: usize>(message: &[u8], with_sum: bool) -> Result<&[u8; C
     if message.len() != message_length(CONTENTS, with_sum) {
         return Err(Refusal::Length(message.len()));
     }
-    let (contents, end) = message.split_first_chunk().ok_or(Refusal::Length(message.len()))?;
+    let (contents, end) = message.split_at(CONTENTS);
+    let contents: &[u8; CONTENTS] = contents.try_into().map_err(|_| Refusal::Length(message.len()))?;
     if !end.ends_with(b"\n\r") {
         return Err(Refusal::Ending);
     }

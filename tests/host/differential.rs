@@ -184,7 +184,7 @@ struct Form {
 
 const TEXT: Form = Form {
     reader: "heron_read_text",
-    contents: 74,
+    contents: lens::TEXT,
     output: 53,
     parts: &[8, 5, 4, 2, 5, 8, 8, 8, 6, 5, 5, 10],
     edges: &[
@@ -216,7 +216,7 @@ const TEXT: Form = Form {
 // zero, 999 and 1000, zooms 1000 and 1001, and bits set where none may be.
 const PACKED: Form = Form {
     reader: "heron_read_packed",
-    contents: 39,
+    contents: lens::PACKED,
     output: 53,
     parts: &[5, 2, 1, 1, 2, 4, 4, 4, 2, 2, 2, 10],
     edges: &[
@@ -254,7 +254,7 @@ const PACKED: Form = Form {
 
 const FIXED: Form = Form {
     reader: "heron_read_fixed",
-    contents: 65,
+    contents: lens::FIXED,
     output: 51,
     parts: &[11, 32, 2, 4, 4, 2, 3, 7],
     edges: &[
@@ -607,7 +607,7 @@ impl Test {
     }
 
     fn random_checksum(&mut self) {
-        let length = self.random.pick(&[0, 1, 2, 39, 65, 74, 300]);
+        let length = self.random.pick(&[0, 1, 2, lens::PACKED, lens::FIXED, lens::TEXT, 300]);
         let length = self.random.below(length + 1);
         let bytes: Vec<u8> = (0..length).map(|_| self.random.byte()).collect();
         self.checksum(&bytes);
@@ -724,8 +724,8 @@ impl Test {
             for field in 1..=11 {
                 let mut r = right_record(&mut self.random);
                 r.fields[field - 1] = as_argument(field, n);
-                self.write_text(&r, false, 76);
-                self.write_packed(&r, false, 41);
+                self.write_text(&r, false, lens::TEXT + 2);
+                self.write_packed(&r, false, lens::PACKED + 2);
             }
             for item in [4, 5, 7] {
                 let mut f = right_fixed(&mut self.random);
@@ -734,22 +734,22 @@ impl Test {
                     5 => f.maximum = n as u32,
                     _ => f.transmission = n as u32,
                 }
-                self.write_fixed(&f, false, 67);
+                self.write_fixed(&f, false, lens::FIXED + 2);
             }
         }
         for byte in 0..=255 {
             for place in 0..9 {
                 let mut r = right_record(&mut self.random);
                 r.serial[place] = byte;
-                self.write_text(&r, true, 78);
-                self.write_packed(&r, true, 43);
+                self.write_text(&r, true, lens::TEXT + 4);
+                self.write_packed(&r, true, lens::PACKED + 4);
             }
             let mut f = right_fixed(&mut self.random);
             f.kind = byte;
-            self.write_fixed(&f, true, 69);
+            self.write_fixed(&f, true, lens::FIXED + 4);
             let mut f = right_fixed(&mut self.random);
             f.letter = byte;
-            self.write_fixed(&f, true, 69);
+            self.write_fixed(&f, true, lens::FIXED + 4);
         }
     }
 

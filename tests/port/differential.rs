@@ -208,7 +208,34 @@ impl Script {
 
 // ---- demand 3's spans
 
-const BOUNDS: [u64; 3] = [156, 233, 79];
+/// The bounds, as they are proved.
+const BOUNDS: [u64; 3] = proved_bounds(include_bytes!("../../crates/rules/specs/Promise.antt"));
+
+/// The three numbers behind `Promised lens`, read while this is compiled.
+const fn proved_bounds(page: &[u8]) -> [u64; 3] {
+    const WORDS: &[u8] = b"Promised lens ";
+    let mut from = 0;
+    loop {
+        let mut at = from;
+        while at - from < WORDS.len() && page[at] == WORDS[at - from] {
+            at += 1;
+        }
+        if at - from == WORDS.len() && page[at].is_ascii_digit() {
+            let mut bounds = [0; 3];
+            let mut i = 0;
+            while i < 3 {
+                while page[at].is_ascii_digit() {
+                    bounds[i] = bounds[i] * 10 + (page[at] - b'0') as u64;
+                    at += 1;
+                }
+                at += 1;
+                i += 1;
+            }
+            return bounds;
+        }
+        from += 1;
+    }
+}
 
 /// Slots from a command's carriage return to the one that acts on it, and to the last byte of its reply; and from a record's last
 /// byte to the next record's first while continuous sending stays on. Each span runs from the slot count that it holds.

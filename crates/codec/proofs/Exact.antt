@@ -2,19 +2,20 @@
 -- so 'accepts exactly what is written' is proved here once for every message. Assumes nothing.
 use Prim.Native.Nat.{ℕ, zero, suc, _+_, _^_, _≤_, _<_}
 use mathlib.Core.List.{List, [], _∷_, _++_}
-use mathlib.Core.Bool.{Bool, true, false, _&&_, cond}
-use mathlib.Core.Path.{_≡_, refl, sym, ap, ap₂, _∙_, subst}
+use mathlib.Core.Bool.{Bool, true, false, cond}
+use mathlib.Core.Path.{_≡_, refl, sym, ap, ap₂, _∙_}
 use native.Mathlib.Omega.{arith}
 use borrow.Author.Tests.{leb-true, le-leb, eqb-true, eq-eqb}
 use lib.ListN.{length, take, drop, getD, length-append, length-take, length-drop, take-append-drop}
 use lib.Seq.{take-at, drop-at}
 use lib.Dec.{leb, eqb}
-use Rattle.laws.proofs.Tests.{and-left, and-right, and-both, cond-yes, cond-no, told}
-use Rattle.digits.specs.Digits.{digits, readField, readDecimal, widest}
+use Rattle.laws.proofs.Tests.{cond-yes, cond-no, told, never}
+use Rattle.digits.specs.Digits.{digits, readField, widest}
 use Rattle.digits.specs.declared.Field.{Field}
 use Rattle.digits.specs.declared.Field.the-variants.{Value, Wrong}
 use Rattle.digits.proofs.Laws.{length-digits, read-digits, digits-read}
-use Rattle.codec.specs.Codec.{Got, got, bad, Codec, passed, failing, first, both, mapped, chained, fieldSays, number, printable, text, letter, begins, tagged, _⊗_, viaIso, through, readTagged}
+use Rattle.codec.specs.Codec.{Got, got, wrong, Codec, passed, failing, first, both, mapped, chained, fieldSays, number, printable, text, letter, begins, tagged, _⊗_, viaIso, through}
+use Rattle.codec.proofs.Texts.{text-long, text-printable, text-fine}
 
 pub record Exact {A : Type 0} (c : Codec A) : Type 0 where
   pub long : (a : A) → c .lowest a ≡ 0 → length (c .print a) ≡ c .width
@@ -45,12 +46,12 @@ zero-first m n p q = rw (p, q)
 pub passed-is : {A : Type 0} (t : Bool) (i : ℕ) (a b : A) → passed t i a ≡ got b → (t ≡ true) × (a ≡ b)
 unfolding passed
 passed-is true i a b e = (refl, cc)
-passed-is false i a b e = absurd (let z : _≡_ {A = ℕ} 0 1 = cc in omega arith)
+passed-is false i a b e = never (cc)
 
 pub both-is : {A B : Type 0} (p : Got A) (q : Got B) (r : A × B) → both p q ≡ got r → (p ≡ got (r .0)) × (q ≡ got (r .1))
 unfolding both
-both-is (bad i) q r e = absurd (let z : _≡_ {A = ℕ} 0 1 = cc in omega arith)
-both-is (got a) (bad j) r e = absurd (let z : _≡_ {A = ℕ} 0 1 = cc in omega arith)
+both-is (wrong i) q r e = never (cc)
+both-is (got a) (wrong j) r e = never (cc)
 both-is {A} {B} (got a) (got b) r e =
     let f : _≡_ {A = A × B} (a, b) r = cc in
     (ap (λ (x : A × B). got (x .0)) f, ap (λ (x : A × B). got (x .1)) f)
@@ -58,17 +59,17 @@ both-is {A} {B} (got a) (got b) r e =
 mapped-is : {A B : Type 0} (f : A → B) (q : Got A) (b : B) → mapped f q ≡ got b → (a : A) × (q ≡ got a) × (f a ≡ b)
 unfolding mapped
 mapped-is f (got a) b e = (a, refl, cc)
-mapped-is f (bad j) b e = absurd (let z : _≡_ {A = ℕ} 0 1 = cc in omega arith)
+mapped-is f (wrong j) b e = never (cc)
 
 chained-is : {A B : Type 0} (f : A → Got B) (q : Got A) (b : B) → chained f q ≡ got b → (a : A) × (q ≡ got a) × (f a ≡ got b)
 unfolding chained
 chained-is f (got a) b e = (a, refl, e)
-chained-is f (bad j) b e = absurd (let z : _≡_ {A = ℕ} 0 1 = cc in omega arith)
+chained-is f (wrong j) b e = never (cc)
 
 pub field-is : (i : ℕ) (f : Field) (n : ℕ) → fieldSays i f ≡ got n → f ≡ Value n
 unfolding fieldSays
 field-is i (Value v) n e = cc
-field-is i Wrong n e = absurd (let z : _≡_ {A = ℕ} 0 1 = cc in omega arith)
+field-is i Wrong n e = never (cc)
 
 -- ---- the fields
 
@@ -85,11 +86,11 @@ number-exact i b off w top some short low = record {
 pub text-exact : (i w : ℕ) → Exact (text (suc i) w)
 unfolding passed
 text-exact i w = record {
-  long = λ s h. eqb-true (length s) w (and-left (eqb (length s) w) (printable s) (holds _ i h));
-  back = λ s h. rw (and-right (eqb (length s) w) (printable s) (holds _ i h));
+  long = λ s h. text-long w s (holds _ i h);
+  back = λ s h. rw (text-printable w s (holds _ i h));
   sound = λ s a l e.
       let p = passed-is (printable s) (suc i) s a e in (
-        fine _ (suc i) (and-both (eq-eqb (length a) w (ap length (sym (p .1)) ∙ l)) (ap printable (sym (p .1)) ∙ p .0)),
+        fine _ (suc i) (sym (text-fine w a (ap length (sym (p .1)) ∙ l) (sym (p .0) ∙ ap printable (p .1)))),
         p .1,
       );
 }
@@ -111,12 +112,12 @@ letter-exact i ok = record {
 
 -- ---- the ways to make one of others
 
-behind-tag : {A : Type 0} (t i : ℕ) (c : Codec A) (s : List ℕ) (a : A) → cond (begins t s) (c .parse (drop 1 s)) (bad i) ≡ got a → (s ≡ t ∷ drop 1 s) × (c .parse (drop 1 s) ≡ got a)
-behind-tag t i c [] a e = absurd (let z : _≡_ {A = ℕ} 0 1 = cc in omega arith)
+behind-tag : {A : Type 0} (t i : ℕ) (c : Codec A) (s : List ℕ) (a : A) → cond (begins t s) (c .parse (drop 1 s)) (wrong i) ≡ got a → (s ≡ t ∷ drop 1 s) × (c .parse (drop 1 s) ≡ got a)
+behind-tag t i c [] a e = never (cc)
 behind-tag t i c (x ∷ s) a e =
     told (eqb x t)
-    (λ y. (ap (λ (z : ℕ). z ∷ s) (eqb-true x t y), sym (cond-yes (c .parse s) (bad i) y) ∙ e))
-    (λ n. absurd (let z : bad i ≡ got a = sym (cond-no (c .parse s) (bad i) n) ∙ e in let y : _≡_ {A = ℕ} 0 1 = cc in omega arith))
+    (λ y. (ap (λ (z : ℕ). z ∷ s) (eqb-true x t y), sym (cond-yes (c .parse s) (wrong i) y) ∙ e))
+    (λ n. let z : wrong i ≡ got a = sym (cond-no (c .parse s) (wrong i) n) ∙ e in never (cc))
 
 pub tagged-exact : {A : Type 0} (t i : ℕ) (c : Codec A) → Exact c → Exact (tagged t i c)
 tagged-exact t i c x = record {
@@ -181,8 +182,3 @@ through-exact i ok enc dec c k x = record {
       let t = k .taken (m .0) b (q .0) (m .2) in
       (fine (ok b) (suc i) (t .0), q .1 ∙ ap (c .print) (sym (t .1)));
 }
-
--- ---- what the code's reader of a tagged number says is what the codec parses
-pub tagged-number : (t i w top : ℕ) (s : List ℕ) → fieldSays i (readTagged t top s) ≡ tagged t i (number i 10 48 w top) .parse s
-unfolding readTagged fieldSays
-tagged-number t i w top s = told (begins t s) (λ y. rw y) (λ n. rw n)

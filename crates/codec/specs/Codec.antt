@@ -1,19 +1,18 @@
 -- A field of a message: how many bytes it takes, which values may be sent, how one is written and what a reader finds.
 use Prim.Native.Nat.{ℕ, zero, suc, _+_}
 use mathlib.Core.List.{List, [], _∷_, _++_}
-use mathlib.Core.Bool.{Bool, true, false, _&&_, cond}
-use mathlib.Core.Path.{_≡_}
-use lib.ListN.{length, take, drop, getD}
+use mathlib.Core.Bool.{Bool, false, _&&_, cond}
+use lib.ListN.{length, take, drop, getD, replicate}
 use lib.Dec.{leb, eqb}
 use Rattle.laws.specs.Every.{every}
-use Rattle.digits.specs.Digits.{digits, readField, readDecimal}
+use Rattle.digits.specs.Digits.{digits, readField}
 use Rattle.digits.specs.declared.Field.{Field}
 use Rattle.digits.specs.declared.Field.the-variants.{Value, Wrong}
 
 -- what a reader finds: the value, or the first wrong field
 pub data Got (A : Type 0) : Type 0 where
   got : A → Got A
-  bad : ℕ → Got A
+  wrong : ℕ → Got A
 
 pub record Codec (A : Type 0) : Type 0 where
   pub width : ℕ
@@ -24,7 +23,7 @@ pub record Codec (A : Type 0) : Type 0 where
 
 -- the value, where the test holds; else field i is wrong
 unfoldable pub passed : {A : Type 0} → Bool → ℕ → A → Got A
-passed ok i a = cond ok (got a) (bad i)
+passed ok i a = cond ok (got a) (wrong i)
 
 -- field i, where the test fails
 unfoldable pub failing : Bool → ℕ → ℕ
@@ -36,22 +35,22 @@ first zero j = j
 first (suc i) j = suc i
 
 unfoldable pub both : {A B : Type 0} → Got A → Got B → Got (A × B)
-both (bad i) q = bad i
-both (got a) (bad j) = bad j
+both (wrong i) q = wrong i
+both (got a) (wrong j) = wrong j
 both (got a) (got b) = got (a, b)
 
 unfoldable pub mapped : {A B : Type 0} → (A → B) → Got A → Got B
-mapped f (bad i) = bad i
+mapped f (wrong i) = wrong i
 mapped f (got a) = got (f a)
 
 unfoldable pub chained : {A B : Type 0} → (A → Got B) → Got A → Got B
-chained f (bad i) = bad i
+chained f (wrong i) = wrong i
 chained f (got a) = f a
 
 -- what a reader of numbers says of field i
 unfoldable pub fieldSays : ℕ → Field → Got ℕ
 fieldSays i (Value n) = got n
-fieldSays i Wrong = bad i
+fieldSays i Wrong = wrong i
 
 -- field i, a number of at most top as w digits
 abbrev pub number : ℕ → ℕ → ℕ → ℕ → ℕ → Codec ℕ
@@ -66,14 +65,26 @@ number i b off w top = record {
 abbrev pub printable : List ℕ → Bool
 printable s = every (λ x. leb 32 x && leb x 126) s
 
+-- a text of n bytes; one of another length is out of range
+unfoldable pub textOk : ℕ → List ℕ → Bool
+textOk n s = eqb (length s) n && printable s
+
 -- field i, a text of w bytes
 abbrev pub text : ℕ → ℕ → Codec (List ℕ)
 text i w = record {
   width = w;
-  lowest = λ s. failing (eqb (length s) w && printable s) i;
+  lowest = λ s. failing (textOk w s) i;
   print = λ s. s;
   parse = λ s. passed (printable s) i s;
 }
+
+-- a text over the whole of an item; one of another length is not written
+abbrev pub overWhole : List ℕ → List ℕ → List ℕ
+overWhole item s = cond (eqb (length s) (length item)) s item
+
+-- a text as an item of n bytes: zeros where it has another length
+abbrev pub filled : ℕ → List ℕ → List ℕ
+filled n s = overWhole (replicate n 0) s
 
 -- field i, one byte that passes a test
 abbrev pub letter : ℕ → (ℕ → Bool) → Codec ℕ
@@ -95,7 +106,7 @@ tagged t i c = record {
   width = suc (c .width);
   lowest = c .lowest;
   print = λ a. t ∷ c .print a;
-  parse = λ s. cond (begins t s) (c .parse (drop 1 s)) (bad i);
+  parse = λ s. cond (begins t s) (c .parse (drop 1 s)) (wrong i);
 }
 
 -- one after the other
@@ -126,6 +137,13 @@ through i ok enc dec c = record {
   parse = λ s. chained dec (c .parse s);
 }
 
--- a tag and decimal digits
-unfoldable pub readTagged : ℕ → ℕ → List ℕ → Field
-readTagged t top s = cond (begins t s) (readDecimal top (drop 1 s)) Wrong
+-- ---- what the code's readers answer
+
+-- a tag, and what is read behind it
+unfoldable pub readTagged : ℕ → (List ℕ → Field) → List ℕ → Field
+readTagged t read s = cond (begins t s) (read (drop 1 s)) Wrong
+
+-- a text behind tags
+unfoldable pub textBehind : List ℕ → List ℕ → Bool
+textBehind [] s = printable s
+textBehind (t ∷ ts) s = begins t s && textBehind ts (drop 1 s)

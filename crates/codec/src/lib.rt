@@ -4,8 +4,8 @@ use digits::Field;
 ghost use mathlib.Core.Path.{_≡_};
 ghost use mathlib.Core.List.{_∷_};
 ghost use Rattle.laws.specs.Over.{over};
-ghost use Rattle.digits.specs.Digits.{decimal};
-ghost use Rattle.codec.specs.Codec.{printable, readTagged};
+ghost use Rattle.digits.specs.Digits.{decimal, readDecimal};
+ghost use Rattle.codec.specs.Codec.{printable, overWhole, readTagged, textBehind};
 
 // Whether every byte may stand in a text. To look at each costs less than to stop at the first that may not.
 pub fn is_text(s: &[u8]) -> bool
@@ -15,10 +15,37 @@ pub fn is_text(s: &[u8]) -> bool
     let mut i = 0;
     while i < s.len() {
         let byte = s[i];
-        all = all & ((32 <= byte) & (byte <= 126));
+        all = all & ((b' ' <= byte) & (byte <= b'~'));
         i += 1;
     }
     all
+}
+
+// Whether s is a text behind its tags.
+pub fn is_behind(s: &[u8], tags: &[u8]) -> bool
+    ensures { λ r. ⌜ r ≡ textBehind (now (tags .entry)) (now (s .entry)) ⌝ }
+{
+    let mut i = 0;
+    while i < tags.len() {
+        if s.len() <= i {
+            return false;
+        }
+        if s[i] != tags[i] {
+            return false;
+        }
+        i += 1;
+    }
+    is_text(&s[i..])
+}
+
+// Writes a text over the whole of an item; one of another length is not written.
+pub fn put_item(item: &mut [u8], text: &[u8])
+    ensures { λ _. ⌜ now (item .exit) ≡ overWhole (now (item .entry)) (now (text .entry)) ⌝ }
+{
+    if text.len() != item.len() {
+        return;
+    }
+    lent::put_text(item, 0, text);
 }
 
 // Writes a tag and the decimal digits behind it.
@@ -37,7 +64,7 @@ pub fn put_tagged(out: &mut [u8], at: usize, tag: u8, width: usize, n: u32)
 
 // Reads a tag and the decimal digits of a number that is at most top.
 pub fn read_tagged(s: &[u8], tag: u8, top: u32) -> Field
-    ensures { λ r. ⌜ r ≡ readTagged tag top (now (s .entry)) ⌝ }
+    ensures { λ r. ⌜ r ≡ readTagged tag (readDecimal top) (now (s .entry)) ⌝ }
 {
     if s.len() == 0 {
         return Field::Wrong;

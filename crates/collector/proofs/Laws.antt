@@ -2,10 +2,9 @@
 use Prim.Native.Nat.{ℕ}
 use mathlib.Core.Bool.{true, false}
 use mathlib.Core.Path.{_≡_, _∙_}
-use lib.Dec.{eqb}
 use Rattle.laws.proofs.Tests.{cond-yes, cond-no}
 use Rattle.line.specs.declared.Line.{Line}
-use Rattle.line.specs.Line.{blank, joined, validLine}
+use Rattle.line.specs.Line.{blank, ends, joined, validLine}
 use Rattle.collector.specs.Collect.{lineAfter, collected}
 
 module _ (l : Line) (b : ℕ) where
@@ -20,19 +19,19 @@ module _ (l : Line) (b : ℕ) where
 
   module _ (v : validLine l ≡ true) where
     -- a carriage return: the line is handed out
-    pub return-line : eqb b 13 ≡ true → lineAfter l b ≡ blank
+    pub return-line : ends l b ≡ true → lineAfter l b ≡ blank
     unfolding lineAfter
     return-line e = cond-yes _ _ v ∙ cond-yes _ _ e
 
-    pub return-answer : eqb b 13 ≡ true → collected l b ≡ record { number = 0; ended = true; line = l }
+    pub return-answer : ends l b ≡ true → collected l b ≡ record { number = 0; ended = true; line = l }
     unfolding collected
     return-answer e = cond-yes _ _ v ∙ cond-yes _ _ e
 
     -- another byte joins
-    pub other-line : eqb b 13 ≡ false → lineAfter l b ≡ joined l b
+    pub other-line : ends l b ≡ false → lineAfter l b ≡ joined l b
     unfolding lineAfter
     other-line n = cond-yes _ _ v ∙ cond-no _ _ n
 
-    pub other-answer : eqb b 13 ≡ false → collected l b ≡ record { number = 0; ended = false; line = blank }
+    pub other-answer : ends l b ≡ false → collected l b ≡ record { number = 0; ended = false; line = blank }
     unfolding collected
     other-answer n = cond-yes _ _ v ∙ cond-no _ _ n

@@ -23,7 +23,7 @@ pub fn line_after(line: Line, byte: u8) -> Line
     if !line.is_valid() {
         return line;
     }
-    if byte == 13 {
+    if line.ends(byte) {
         return Line::blank();
     }
     line.joined(byte)
@@ -40,7 +40,7 @@ pub fn answer(line: Line, byte: u8) -> Collected
             line: Line::blank(),
         };
     }
-    if byte == 13 {
+    if line.ends(byte) {
         return Collected {
             number: 0,
             ended: true,

@@ -1,19 +1,18 @@
 -- Demand 2: each clause by the law that holds for every exact codec, or by the laws of the units. Assumes nothing.
 use Prim.Native.Nat.{ℕ}
 use mathlib.Core.Bool.{Bool, true, false, _&&_}
-use mathlib.Core.Path.{_≡_, refl, sym, ap, subst, _∙_}
-use native.Mathlib.Omega.{arith}
+use mathlib.Core.Path.{_≡_, refl, sym, subst, _∙_}
 use lib.IntN.{ℤ}
-use Rattle.laws.proofs.Tests.{and-left, and-right, told}
-use Rattle.refusal.specs.Answer.{Answer, accepted, refused, unless}
+use Rattle.laws.proofs.Tests.{and-left, and-right, never}
+use Rattle.refusal.specs.Answer.{Answer, accepted, unless}
 use Rattle.refusal.specs.declared.Refusal.{Refusal}
 use Rattle.refusal.specs.declared.Refusal.the-variants.{Field, Setting}
 use Rattle.frame.proofs.Faithful.{faithful}
 use Rattle.record.specs.Record.{recordLowest}
-use Rattle.record.specs.Forms.{textForm, packedForm}
+use Rattle.record.specs.Forms.{textForm, packedForm, textLength, packedLength}
 use Rattle.record.proofs.Exact.{text-form-exact, packed-form-exact, text-form-width, packed-form-width, text-lowest, packed-lowest}
 use Rattle.fixed.specs.Fixed.{fixedLowest}
-use Rattle.fixed.specs.Form.{fixedForm}
+use Rattle.fixed.specs.Form.{fixedForm, fixedLength}
 use Rattle.fixed.proofs.Exact.{fixed-form-exact, fixed-form-width, fixed-lowest}
 use Rattle.units.specs.Units.{isUnit, inRange, numberIn, Converts, conversion}
 use Rattle.units.proofs.Nearest.{converts, alike-unchanged}
@@ -23,7 +22,7 @@ use Rattle.demand2.specs.Demand2.{Demand2}
 unless-is : {A : Type 0} (ok : Bool) (r : Refusal) (k : Answer A) (a : A) → unless ok r k ≡ accepted a → (ok ≡ true) × (k ≡ accepted a)
 unfolding unless
 unless-is true r k a e = (refl, e)
-unless-is false r k a e = absurd (let z : _≡_ {A = ℕ} 0 1 = cc in omega arith)
+unless-is false r k a e = never (cc)
 
 -- what an accepted conversion says of its letters and its number
 told-by : (i : ℕ) (z r : ℤ) (unit wanted : ℕ) → conversion i z unit wanted ≡ accepted r → ((isUnit unit && isUnit wanted) ≡ true) × (numberIn unit wanted z ≡ r)
@@ -35,9 +34,9 @@ told-by i z r unit wanted e =
 
 pub demand2 : Demand2
 demand2 = record {
-  text = faithful textForm text-form-exact recordLowest Field 74 text-lowest text-form-width;
-  packed = faithful packedForm packed-form-exact recordLowest Field 39 packed-lowest packed-form-width;
-  fixed = faithful fixedForm fixed-form-exact fixedLowest Setting 65 fixed-lowest fixed-form-width;
+  text = faithful textForm text-form-exact recordLowest Field textLength text-lowest text-form-width;
+  packed = faithful packedForm packed-form-exact recordLowest Field packedLength packed-lowest packed-form-width;
+  fixed = faithful fixedForm fixed-form-exact fixedLowest Setting fixedLength fixed-lowest fixed-form-width;
   converts = λ i z r unit wanted e.
       let p = told-by i z r unit wanted e in
       subst (λ (y : ℤ). Converts unit wanted z y) (p .1)

@@ -1,16 +1,14 @@
 -- Demand 2: "Each reply, text record, packed record, checksum and unit conversion is exactly what the Cooke documents and document 01 define. A reader
 -- accepts exactly the messages the writer writes for sendable contents, and gives those contents back." Statements only.
 use Prim.Native.Nat.{ℕ}
-use mathlib.Core.Bool.{Bool, true, false, _&&_}
+use mathlib.Core.Bool.{true}
 use mathlib.Core.List.{List}
 use mathlib.Core.Path.{_≡_}
-use lib.Dec.{eqb}
 use lib.IntN.{ℤ}
-use lib.ListN.{length}
 use Rattle.refusal.specs.Answer.{accepted}
 use Rattle.refusal.specs.declared.Refusal.the-variants.{Field, Setting}
 use Rattle.refusal.specs.declared.Verdict.the-variants.{Done}
-use Rattle.codec.specs.Codec.{printable}
+use Rattle.codec.specs.Codec.{textOk}
 use Rattle.frame.specs.Faithful.{Faithful}
 use Rattle.record.specs.Record.{recordLowest}
 use Rattle.record.specs.Forms.{textForm, packedForm}
@@ -32,4 +30,4 @@ pub record Demand2 : Type 0 where
   pub alike : (field : ℕ) (z r : ℤ) (unit : ℕ) → conversion field z unit unit ≡ accepted r → r ≡ z
   -- "so each measurement is sendable in either unit": an accepted one, with a serial of nine text bytes
   pub sendable : (m : Measurement) (display : ℕ) (serial : List ℕ) → measurementVerdict m ≡ Done → isUnit display ≡ true →
-      (eqb (length serial) 9 && printable serial) ≡ true → recordLowest (recordIn display m serial) ≡ 0
+      textOk 9 serial ≡ true → recordLowest (recordIn display m serial) ≡ 0

@@ -1,16 +1,18 @@
 -- The laws of digits, once, over the base, the offset and the width: what is written reads back, and what reads was written.
 -- Assumes nothing.
 use Prim.Native.Nat.{ℕ, zero, suc, _+_, _-_, _*_, _/_, _%_, _^_, _≤_, _<_}
-use mathlib.Core.Path.{_≡_, refl, sym, ap, ap₂, _∙_, subst}
+use mathlib.Core.Path.{_≡_, refl, sym, ap, ap₂, _∙_}
 use mathlib.Core.List.{List, [], _∷_}
-use mathlib.Core.Bool.{Bool, true, false, _&&_, cond}
-use native.Mathlib.Nat.{mod-eq-of-lt, mod-lt, pow-suc, pow-succ', pow-zero, mul-assoc, one-le-pow, mul-add-div-right, mul-add-mod-self-right, add-sub-cancel-left, le-trans, lt-of-lt-of-le, pow-le-pow-right, pow-le-pow-left}
+use mathlib.Core.Bool.{true, _&&_}
+use native.Mathlib.Nat.{mod-eq-of-lt, mod-lt, pow-succ', pow-zero, mul-assoc, one-le-pow, mul-add-div-right, mul-add-mod-self-right, add-sub-cancel-left, le-trans, pow-le-pow-right, pow-le-pow-left}
 use native.Mathlib.Omega.{arith}
 use borrow.Author.Tests.{ltb-true, leb-true, lt-ltb, le-leb, lt-leb, le-ltb}
 use lib.Arith.{mod-mul, digits-lt, digits-div, lt-one}
 use lib.ListN.{length}
 use lib.Dec.{ltb, leb}
-use Rattle.laws.proofs.Tests.{and-left, and-right, and-both, told}
+use Rattle.laws.proofs.Tests.{and-left, and-right, told, never}
+use Rattle.laws.specs.Every.{every}
+use Rattle.laws.proofs.EveryLaws.{every-head, every-tail}
 use Rattle.digits.specs.Digits.{digits, value, areDigits, isDigit, only, readDigits, readField, widest}
 use Rattle.digits.specs.declared.Field.{Field}
 use Rattle.digits.specs.declared.Field.the-variants.{Value, Wrong}
@@ -25,7 +27,7 @@ module _ (b off : ℕ) (some : 0 < b) where
   digit-at x h = rw (le-leb off (off + x) (omega arith), add-sub-cancel-left off x, lt-ltb x b h)
 
   pub are-digits : (w n : ℕ) → areDigits b off (digits b off w n) ≡ true
-  unfolding digits areDigits
+  unfolding digits every
   are-digits zero n = refl
   are-digits (suc w) n = rw (digit-at (n / b ^ w % b) (mod-lt (n / b ^ w) some), are-digits w n)
 
@@ -55,19 +57,11 @@ module _ (b off : ℕ) (some : 0 < b) where
   digit-back : (d : ℕ) → isDigit b off d ≡ true → off + (d - off) ≡ d
   digit-back d h = omega (arith, leb-true off d (and-left (leb off d) (ltb (d - off) b) h))
 
-  head : (d : ℕ) (ds : List ℕ) → areDigits b off (d ∷ ds) ≡ true → isDigit b off d ≡ true
-  unfolding areDigits
-  head d ds h = and-left (isDigit b off d) (areDigits b off ds) h
-
-  tail : (d : ℕ) (ds : List ℕ) → areDigits b off (d ∷ ds) ≡ true → areDigits b off ds ≡ true
-  unfolding areDigits
-  tail d ds h = and-right (isDigit b off d) (areDigits b off ds) h
-
   pub value-lt : (ds : List ℕ) → areDigits b off ds ≡ true → value b off ds < b ^ length ds
   unfolding value
   value-lt [] h = rw pow-zero (omega arith)
   value-lt (d ∷ ds) h =
-      rw (pow-succ' b (length ds)) (digits-lt (digit-low d (head d ds h)) (value-lt ds (tail d ds h)))
+      rw (pow-succ' b (length ds)) (digits-lt (digit-low d (every-head _ d ds h)) (value-lt ds (every-tail _ d ds h)))
 
   pub digits-value : (ds : List ℕ) → areDigits b off ds ≡ true → digits b off (length ds) (value b off ds) ≡ ds
   unfolding value digits
@@ -75,10 +69,10 @@ module _ (b off : ℕ) (some : 0 < b) where
   digits-value (d ∷ ds) h =
       let q = d - off in
       let v = value b off ds in
-      let low = digit-low d (head d ds h) in
+      let low = digit-low d (every-head _ d ds h) in
       ap₂ _∷_
-      (ap (λ (x : ℕ). off + x) (ap (λ (x : ℕ). x % b) (digits-div q (value-lt ds (tail d ds h))) ∙ mod-eq-of-lt low) ∙ digit-back d (head d ds h))
-      (digits-above (length ds) q v ∙ digits-value ds (tail d ds h))
+      (ap (λ (x : ℕ). off + x) (ap (λ (x : ℕ). x % b) (digits-div q (value-lt ds (every-tail _ d ds h))) ∙ mod-eq-of-lt low) ∙ digit-back d (every-head _ d ds h))
+      (digits-above (length ds) q v ∙ digits-value ds (every-tail _ d ds h))
 
   -- what is written reads back
   pub read-digits : (w n top : ℕ) → w ≤ widest → n ≤ top → top < b ^ w → readField b off top (digits b off w n) ≡ Value n
@@ -99,13 +93,13 @@ module _ (b off : ℕ) (some : 0 < b) where
         omega arith,
         sym (digits-value s (and-left (areDigits b off s) (leb (value b off s) top) good)) ∙ ap (digits b off (length s)) v,
       ))
-      (λ wrong. absurd (let z : Wrong ≡ Value n = rw (short, wrong) at e in let y : _≡_ {A = ℕ} 0 1 = cc in omega arith)))
-      (λ long. absurd (let z : Wrong ≡ Value n = rw long at e in let y : _≡_ {A = ℕ} 0 1 = cc in omega arith))
+      (λ wrong. let z : Wrong ≡ Value n = rw (short, wrong) at e in never (cc)))
+      (λ long. let z : Wrong ≡ Value n = rw long at e in never (cc))
 
 regroup : (v b q p r : ℕ) → v * (b * p) + (q * p + r) ≡ (v * b + q) * p + r
 regroup v b q p r = omega arith
 
--- no field of the paper overflows 64 bits
+-- no field overflows 64 bits
 pub narrow : (b w : ℕ) → 0 < b → b ≤ 64 → w ≤ widest → b ^ w ≤ 2 ^ 64
 narrow b w some h k = le-trans (pow-le-pow-left h w) (le-trans (pow-le-pow-right {n = 64} (omega arith) k) (omega arith))
 
@@ -121,22 +115,22 @@ module _ (b off top : ℕ) where
       ap (λ (x : ℕ). only (areDigits b off ds && leb x top) x) e
 
   pub onward-more : (v d : ℕ) (ds : List ℕ) → off ≤ d → d - off < b → onward v (d ∷ ds) ≡ onward (v * b + (d - off)) ds
-  unfolding areDigits value
+  unfolding every value
   onward-more v d ds h k =
       let e : v * b ^ suc (length ds) + ((d - off) * b ^ length ds + value b off ds) ≡ (v * b + (d - off)) * b ^ length ds + value b off ds
       = rw (pow-succ' b (length ds)) (regroup v b (d - off) (b ^ length ds) (value b off ds)) in
       rw (le-leb off d h, lt-ltb (d - off) b k) (ap (λ (x : ℕ). only (areDigits b off ds && leb x top) x) e)
 
   pub onward-low : (v d : ℕ) (ds : List ℕ) → d < off → onward v (d ∷ ds) ≡ Wrong
-  unfolding areDigits
+  unfolding every
   onward-low v d ds h = rw (lt-leb off d h)
 
   pub onward-high : (v d : ℕ) (ds : List ℕ) → off ≤ d → b ≤ d - off → onward v (d ∷ ds) ≡ Wrong
-  unfolding areDigits
+  unfolding every
   onward-high v d ds h k = rw (le-leb off d h, le-ltb (d - off) b k)
 
   pub onward-end : (v : ℕ) → onward v [] ≡ only (leb v top) v
-  unfolding areDigits value
+  unfolding every value
   onward-end v =
       let e : v * b ^ 0 + 0 ≡ v = rw pow-zero (omega arith) in
       rw e

@@ -2,9 +2,10 @@
 -- Text has decimal digits (base 10, on top of 30 hex); the packed form has groups of six bits, each under bits 01 (base 64, on top of 40 hex).
 use Prim.Native.Nat.{ℕ, zero, suc, _+_, _-_, _*_, _/_, _%_, _^_}
 use mathlib.Core.List.{List, [], _∷_}
-use mathlib.Core.Bool.{Bool, true, false, _&&_, cond}
+use mathlib.Core.Bool.{Bool, _&&_, cond}
 use lib.ListN.{length}
 use lib.Dec.{ltb, leb}
+use Rattle.laws.specs.Every.{every}
 use Rattle.digits.specs.declared.Field.{Field}
 use Rattle.digits.specs.declared.Field.the-variants.{Value, Wrong}
 
@@ -22,9 +23,8 @@ value b off (d ∷ ds) = (d - off) * b ^ length ds + value b off ds
 abbrev pub isDigit : ℕ → ℕ → ℕ → Bool
 isDigit b off d = leb off d && ltb (d - off) b
 
-unfoldable pub areDigits : ℕ → ℕ → List ℕ → Bool
-areDigits b off [] = true
-areDigits b off (d ∷ ds) = isDigit b off d && areDigits b off ds
+abbrev pub areDigits : ℕ → ℕ → List ℕ → Bool
+areDigits b off s = every (isDigit b off) s
 
 -- the value, where the test holds
 abbrev pub only : Bool → ℕ → Field
@@ -34,9 +34,9 @@ only ok n = cond ok (Value n) Wrong
 unfoldable pub readDigits : ℕ → ℕ → ℕ → List ℕ → Field
 readDigits b off top s = only (areDigits b off s && leb (value b off s) top) (value b off s)
 
--- no number of the paper takes more bytes
+-- no field takes more bytes; nine decimal digits fit 32 bits
 abbrev pub widest : ℕ
-widest = 7
+widest = 9
 
 -- a field of digits
 unfoldable pub readField : ℕ → ℕ → ℕ → List ℕ → Field

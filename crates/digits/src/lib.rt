@@ -11,6 +11,9 @@ pub enum Field {
     Wrong,
 }
 
+// No field takes more bytes. Nine decimal digits fit 32 bits, and nine groups fit 64.
+const WIDEST: usize = 9;
+
 // Writes the digits of n into the width bytes from a place on.
 fn put(out: &mut [u8], at: usize, width: usize, base: u32, off: u32, n: u32)
     requires { ⌜ (0 < base) × (off + base ≤ 256) ⌝ }
@@ -33,7 +36,7 @@ fn get(s: &[u8], base: u64, off: u64, top: u32) -> Field
     requires { ⌜ (0 < base) × (base ≤ 64) × (off + base ≤ 256) ⌝ }
     ensures { λ r. ⌜ r ≡ readField base off top (now (s .entry)) ⌝ }
 {
-    if 7 < s.len() {
+    if WIDEST < s.len() {
         return Field::Wrong;
     }
     let mut v: u64 = 0;
@@ -60,7 +63,7 @@ fn get(s: &[u8], base: u64, off: u64, top: u32) -> Field
 pub fn put_decimal(out: &mut [u8], at: usize, width: usize, n: u32)
     ensures { λ _. ⌜ now (out .exit) ≡ over (now (out .entry)) at (decimal width n) ⌝ }
 {
-    put(out, at, width, 10, 48, n);
+    put(out, at, width, 10, b'0' as u32, n);
 }
 
 // Writes width groups of six bits, each under bits 01; unused high bits are 0.
@@ -74,7 +77,7 @@ pub fn put_groups(out: &mut [u8], at: usize, width: usize, n: u32)
 pub fn read_decimal(s: &[u8], top: u32) -> Field
     ensures { λ r. ⌜ r ≡ readDecimal top (now (s .entry)) ⌝ }
 {
-    get(s, 10, 48, top)
+    get(s, 10, b'0' as u64, top)
 }
 
 // Reads groups of six bits of a number that is at most top.

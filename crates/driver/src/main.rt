@@ -25,13 +25,13 @@ ghost use Rattle.walk.specs.InPlace.{portInPlace};
 const MOST: usize = 400;
 
 // The port and its collector.
-struct Lens {
+struct Held {
     port: Port,
     line: Line,
 }
 
 struct Desk {
-    lens: Lens,
+    lens: Held,
     // no look has come back empty yet: the input may be one that waits
     waits: bool,
     // the turns that sent since time last passed
@@ -56,7 +56,7 @@ enum Seen {
 }
 
 // A received byte: the collector is updated in place, and a line that it ended goes to the port.
-fn received(port: Port, line: Line, byte: u8) -> Lens
+fn received(port: Port, line: Line, byte: u8) -> Held
     ensures { λ r. ⌜ (r .port ≡ portInPlace port line byte) × (r .line ≡ lineAfter line byte) ⌝ }
 {
     let updated = collector::lend(line, byte);
@@ -64,14 +64,14 @@ fn received(port: Port, line: Line, byte: u8) -> Lens
     let answer = updated.answer;
     if answer.ended {
         let ended = answer.line;
-        let taken = port.receive(ended, 13);
+        let taken = port.receive(ended, byte);
         let next = taken.port;
-        return Lens {
+        return Held {
             port: next,
             line: kept,
         };
     }
-    Lens { port, line: kept }
+    Held { port, line: kept }
 }
 
 // One byte of an input, if there is one.
@@ -185,7 +185,7 @@ fn turned(desk: Desk, waiting: i32) -> Desk {
     let line = lens.line;
     let turn = slots(lens.port, desk.waits);
     let port = turn.port;
-    let now = Lens { port, line };
+    let now = Held { port, line };
     let mut after = desk;
     after.lens = now;
     after.open = turn.written;
@@ -238,7 +238,7 @@ fn main() {
         return;
     }
     let port = handed.port;
-    let lens = Lens {
+    let lens = Held {
         port,
         line: Line::blank(),
     };

@@ -24,7 +24,6 @@ use Rattle.port.specs.declared.Slotted.{Slotted}
 use Rattle.port.specs.declared.Sent.{Sent}
 use Rattle.port.specs.declared.Sent.the-variants.{Byte, Idle, Refused}
 use Rattle.port.specs.Port.{validPort, movedIf, sentUpTo, sendFrom, slotOf}
-use Rattle.port.specs.Promises.{KeptValid}
 use Rattle.fill.specs.declared.Onward.{Onward}
 use Rattle.fill.specs.Fill.{Run, thenRun, runOf, ahead, Sends, Goes}
 

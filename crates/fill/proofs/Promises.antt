@@ -1,11 +1,11 @@
 -- The promises of the driver's call, by the run of slots that it is. Assumes nothing.
 use Prim.Native.Nat.{ℕ, zero, suc, _≤_}
-use mathlib.Core.Bool.{Bool, true, false, cond}
-use mathlib.Core.List.{List, [], _∷_}
-use mathlib.Core.Path.{_≡_, refl, sym, ap, subst, _∙_}
+use mathlib.Core.Bool.{true, false}
+use mathlib.Core.List.{List}
+use mathlib.Core.Path.{_≡_, sym, ap, subst, _∙_}
 use native.Mathlib.Omega.{arith}
 use lib.ListN.{length}
-use Rattle.laws.proofs.Tests.{cond-yes, cond-no, told}
+use Rattle.laws.proofs.Tests.{cond-yes, cond-no, told, never}
 use Rattle.refusal.specs.declared.Refusal.{Refusal}
 use Rattle.refusal.specs.declared.Verdict.the-variants.{Done, Refused}
 use Rattle.port.specs.declared.Port.{Port}
@@ -22,7 +22,7 @@ was-invalid : (p : Port) (n : ℕ) (r : Refusal) → fillOf p n .verdict ≡ Ref
 unfolding fillOf
 was-invalid p n r e =
     told (validPort p)
-    (λ v. absurd (let z : Done ≡ Refused r = sym (ap (λ (x : Filled). x .verdict) (cond-yes _ _ v)) ∙ e in let y : _≡_ {A = ℕ} 0 1 = cc in omega arith))
+    (λ v. let z : Done ≡ Refused r = sym (ap (λ (x : Filled). x .verdict) (cond-yes _ _ v)) ∙ e in never (cc))
     (λ f. f)
 
 refused-port : (p : Port) (n : ℕ) (r : Refusal) → fillOf p n .verdict ≡ Refused r → fillOf p n .port ≡ p

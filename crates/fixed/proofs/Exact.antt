@@ -2,14 +2,15 @@
 use Prim.Native.Nat.{ℕ, suc, _<_, _≤_, _^_}
 use mathlib.Core.Path.{_≡_, refl}
 use native.Mathlib.Omega.{arith}
+use Rattle.digits.specs.Digits.{widest}
 use Rattle.codec.specs.Codec.{number, tagged}
 use Rattle.codec.proofs.Exact.{Exact, number-exact, text-exact, letter-exact, tagged-exact, ⊗-exact, iso-exact}
-use Rattle.fixed.specs.Fixed.{kindOk, letterOk, textOk, lensLowest, fixedLowest}
-use Rattle.fixed.specs.Form.{serial, owner, lensOf, lensParts, lens, version, ofParts, partsOf, fixedForm}
+use Rattle.fixed.specs.Fixed.{kindOk, letterOk, lensLowest, fixedLowest}
+use Rattle.fixed.specs.Form.{serial, owner, lensOf, lensParts, lensItems, version, ofParts, partsOf, fixedLength, fixedForm}
 use Rattle.fixed.specs.declared.Fixed.{Fixed}
 
 -- a number of w digits behind its tag
-number-tagged : (t i w top : ℕ) → w ≤ 7 → top < 10 ^ w → Exact (tagged t (suc i) (number (suc i) 10 48 w top))
+number-tagged : (t i w top : ℕ) → w ≤ widest → top < 10 ^ w → Exact (tagged t (suc i) (number (suc i) 10 48 w top))
 number-tagged t i w top h k = tagged-exact t (suc i) _ (number-exact i 10 48 w top (omega arith) h k)
 
 serial-exact : Exact serial
@@ -20,8 +21,8 @@ owner-exact : Exact owner
 unfolding owner
 owner-exact = tagged-exact 79 2 _ (text-exact 1 31)
 
-lens-exact : Exact lens
-unfolding lens
+lens-exact : Exact lensItems
+unfolding lensItems
 lens-exact =
     iso-exact lensOf lensParts _ (λ p. refl) (λ l. refl)
     (⊗-exact _ _ (tagged-exact 76 3 _ (letter-exact 2 kindOk))
@@ -41,9 +42,9 @@ fixed-form-exact =
 
 -- sendable is: no item out of range
 pub fixed-lowest : (f : Fixed) → fixedForm .lowest f ≡ fixedLowest f
-unfolding fixedForm serial owner lens version fixedLowest lensLowest textOk
+unfolding fixedForm serial owner lensItems version fixedLowest lensLowest
 fixed-lowest f = refl
 
-pub fixed-form-width : fixedForm .width ≡ 65
-unfolding fixedForm serial owner lens version
+pub fixed-form-width : fixedForm .width ≡ fixedLength
+unfolding fixedForm serial owner lensItems version
 fixed-form-width = refl

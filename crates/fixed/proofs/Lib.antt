@@ -1,3 +1,4 @@
 pub mod Exact
+pub mod Fine
 pub mod Given
 pub mod Unique

@@ -3,10 +3,11 @@ use Prim.Native.Nat.{ℕ}
 use mathlib.Core.Bool.{Bool}
 use mathlib.Core.List.{List}
 use mathlib.Core.Path.{_≡_}
+use lib.Dec.{eqb}
 use Rattle.laws.proofs.OneAnswer.{one-answer}
 use Rattle.refusal.specs.Answer.{accepted, refused}
 use Rattle.refusal.specs.declared.Refusal.{Refusal}
-use Rattle.fixed.specs.Fixed.{kindOk, letterOk, fixedLowest, settingsLowest, fixedOf, filled, fixedRead}
+use Rattle.fixed.specs.Fixed.{kindOk, letterOk, fixedLowest, settingsLowest, fixedFilled, fixedRead}
 use Rattle.fixed.specs.declared.Fixed.{Fixed}
 use Rattle.fixed.specs.declared.FixedRead.{FixedRead}
 use Rattle.fixed.specs.declared.Lens.{Lens}
@@ -30,6 +31,9 @@ one-lowest-item f = one-answer
 pub one-lowest-setting : (s : Settings) {i i′ : ℕ} → i ≡ settingsLowest s → i′ ≡ settingsLowest s → i ≡ i′
 one-lowest-setting s = one-answer
 
+pub one-are-settings : (s : Settings) {r r′ : Bool} → r ≡ eqb (settingsLowest s) 0 → r′ ≡ eqb (settingsLowest s) 0 → r ≡ r′
+one-are-settings s = one-answer
+
 pub one-fixed-from : (serial owner : List ℕ) (lens : Lens) (version : List ℕ) {f f′ : Fixed} →
-    f ≡ fixedOf (filled 9 serial) (filled 31 owner) lens (filled 4 version) → f′ ≡ fixedOf (filled 9 serial) (filled 31 owner) lens (filled 4 version) → f ≡ f′
+    f ≡ fixedFilled serial owner lens version → f′ ≡ fixedFilled serial owner lens version → f ≡ f′
 one-fixed-from serial owner lens version = one-answer

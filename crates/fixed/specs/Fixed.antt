@@ -1,21 +1,17 @@
 -- What may be set: document 01's items and their ranges. The answer is the lowest item out of range, 0 where there is none.
 use Prim.Native.Nat.{ℕ}
-use mathlib.Core.Bool.{Bool, true, _&&_, _||_, cond}
-use mathlib.Core.List.{List, [], _∷_}
+use mathlib.Core.Bool.{Bool, _&&_, _||_}
+use mathlib.Core.List.{List}
 use lib.Dec.{leb, eqb}
 use lib.ListN.{length, replicate}
 use Rattle.laws.specs.Every.{every}
 use Rattle.refusal.specs.Answer.{Answer, accepted, refused}
 use Rattle.refusal.specs.declared.Verdict.the-variants.{Done, Refused}
-use Rattle.codec.specs.Codec.{failing, first, printable}
+use Rattle.codec.specs.Codec.{failing, first, textOk, filled}
 use Rattle.fixed.specs.declared.Fixed.{Fixed}
 use Rattle.fixed.specs.declared.Lens.{Lens}
 use Rattle.fixed.specs.declared.Settings.{Settings}
 use Rattle.fixed.specs.declared.FixedRead.{FixedRead}
-
--- a text of n bytes, each 20..7E hex; one of another length is out of range
-unfoldable pub textOk : ℕ → List ℕ → Bool
-textOk n s = eqb (length s) n && printable s
 
 -- P or Z
 unfoldable pub kindOk : ℕ → Bool
@@ -70,9 +66,9 @@ fixedOf serial owner l version = record {
   version = version;
 }
 
--- a text as an item of n bytes: zeros where it has another length
-abbrev pub filled : ℕ → List ℕ → List ℕ
-filled n s = cond (eqb (length s) n) s (replicate n 0)
+-- the items put together, each text as long as its item: one of another length is left as zeros
+abbrev pub fixedFilled : List ℕ → List ℕ → Lens → List ℕ → Fixed
+fixedFilled serial owner l version = fixedOf (filled 9 serial) (filled 31 owner) l (filled 4 version)
 
 -- ---- what hands fixed data back: the items, or a refusal beside items of zeros
 

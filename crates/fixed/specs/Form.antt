@@ -24,8 +24,8 @@ abbrev pub lensParts : Lens → LensParts
 lensParts l = (l .kind, (l .focal, (l .maximum, (l .letter, l .transmission))))
 
 -- L, N, M, U, T
-unfoldable pub lens : Codec Lens
-lens =
+unfoldable pub lensItems : Codec Lens
+lensItems =
     viaIso lensOf lensParts
     (tagged 76 3 (letter 3 kindOk)
     ⊗ (tagged 78 4 (number 4 10 48 3 999)
@@ -46,6 +46,10 @@ ofParts p = fixedOf (p .0) (p .1 .0) (p .1 .1 .0) (p .1 .1 .1)
 abbrev pub partsOf : Fixed → Parts
 partsOf f = (f .serial, (f .owner, (lensIn f, f .version)))
 
--- the fixed data as text: 65 bytes
+-- how many bytes the contents of the N message take
+abbrev pub fixedLength : ℕ
+fixedLength = 65
+
+-- the fixed data as text
 unfoldable pub fixedForm : Codec Fixed
-fixedForm = viaIso ofParts partsOf (serial ⊗ (owner ⊗ (lens ⊗ version)))
+fixedForm = viaIso ofParts partsOf (serial ⊗ (owner ⊗ (lensItems ⊗ version)))

@@ -1,12 +1,14 @@
 // The fixed data and the settings by value: their items, and what may be sent.
 use refusal::Refusal;
 use refusal::Verdict;
-ghost use mathlib.Core.Bool.{cond};
 ghost use mathlib.Core.Path.{_≡_};
 ghost use lib.Dec.{eqb};
-ghost use lib.ListN.{length};
 ghost use Rattle.refusal.specs.Answer.{accepted, refused};
-ghost use Rattle.fixed.specs.Fixed.{kindOk, letterOk, blurOk, textOk, lensLowest, fixedLowest, settingsLowest, fixedOf, filled, fixedRead};
+ghost use Rattle.codec.specs.Codec.{textOk};
+ghost use Rattle.fixed.specs.Fixed.{kindOk, letterOk, blurOk, lensLowest, fixedLowest, settingsLowest, fixedFilled, fixedRead};
+
+// How many bytes the contents of the N message take.
+pub const FIXED_LENGTH: usize = 65;
 
 // Items 1 to 8: what the N message carries.
 pub struct Fixed {
@@ -195,26 +197,54 @@ pub fn lowest_setting(s: Settings) -> u32
     0
 }
 
-// Writes a text over the whole of an item; one of another length is not written.
-fn put_item(item: &mut [u8], text: &[u8])
-    ensures { λ _. ⌜ now (item .exit) ≡ cond (eqb (length (now (text .entry))) (length (now (item .entry)))) (now (text .entry)) (now (item .entry)) ⌝ }
+// Whether items 3 to 7 are in range.
+fn is_lens(l: Lens) -> bool
+    ensures { λ r. ⌜ r ≡ eqb (lensLowest l) 0 ⌝ }
 {
-    if text.len() != item.len() {
-        return;
-    }
-    lent::put_text(item, 0, text);
+    let rest = is_letter(l.letter) & (l.transmission <= 99);
+    is_kind(l.kind) & ((l.focal <= 999) & ((l.maximum <= 999) & rest))
+}
+
+// Whether the fixed data may be sent. Every test is made, and none is branched on: so the texts are
+// tested many bytes at once.
+fn is_fixed(f: Fixed) -> bool
+    ensures { λ r. ⌜ r ≡ eqb (fixedLowest f) 0 ⌝ }
+{
+    let lens = Lens {
+        kind: f.kind,
+        focal: f.focal,
+        maximum: f.maximum,
+        letter: f.letter,
+        transmission: f.transmission,
+    };
+    let serial = codec::is_text(&f.serial);
+    let owner = codec::is_text(&f.owner);
+    let version = codec::is_text(&f.version);
+    serial & (owner & (is_lens(lens) & version))
+}
+
+// Whether a port may start with these settings.
+pub fn are_settings(s: Settings) -> bool
+    ensures { λ r. ⌜ r ≡ eqb (settingsLowest s) 0 ⌝ }
+{
+    let fixed = s.fixed;
+    let items = is_fixed(fixed);
+    let maker = codec::is_text(&s.maker);
+    let type_name = codec::is_text(&s.type_name);
+    let blur = is_blur(&s.blur);
+    items & (maker & (type_name & blur))
 }
 
 // The items put together. A text of another length is left as zeros, which no text holds, so that it stays out of range.
 pub fn fixed_from(serial: &[u8], owner: &[u8], lens: Lens, version: &[u8]) -> Fixed
-    ensures { λ f. ⌜ f ≡ fixedOf (filled 9 (now (serial .entry))) (filled 31 (now (owner .entry))) lens (filled 4 (now (version .entry))) ⌝ }
+    ensures { λ f. ⌜ f ≡ fixedFilled (now (serial .entry)) (now (owner .entry)) lens (now (version .entry)) ⌝ }
 {
     let mut nine = [0; 9];
-    put_item(&mut nine, serial);
+    codec::put_item(&mut nine, serial);
     let mut thirty_one = [0; 31];
-    put_item(&mut thirty_one, owner);
+    codec::put_item(&mut thirty_one, owner);
     let mut four = [0; 4];
-    put_item(&mut four, version);
+    codec::put_item(&mut four, version);
     Fixed {
         serial: nine,
         owner: thirty_one,

@@ -1,7 +1,7 @@
 -- A reader accepts exactly the messages that the writer writes of sendable contents: once, for every exact codec. Assumes nothing.
-use Prim.Native.Nat.{ℕ, zero, suc, _+_, _-_, _/_, _%_, _≤_, _<_}
+use Prim.Native.Nat.{ℕ, _+_, _-_, _≤_, _<_}
 use mathlib.Core.List.{List, [], _∷_, _++_}
-use mathlib.Core.Bool.{Bool, true, false, _&&_, cond}
+use mathlib.Core.Bool.{Bool, true, false}
 use mathlib.Core.Path.{_≡_, refl, sym, ap, ap₂, _∙_, subst}
 use mathlib.Core.Logic.{_↔_}
 use native.Mathlib.Nat.{add-zero}
@@ -9,14 +9,15 @@ use native.Mathlib.Omega.{arith}
 use borrow.Author.Tests.{eqb-true, eq-eqb}
 use lib.ListN.{length, take, drop, getD, length-append, length-take, length-drop, take-append-drop}
 use lib.Seq.{take-at, getD-drop, getD-append-add, drop-drop}
-use lib.Dec.{eqb, leb}
-use Rattle.laws.proofs.Tests.{and-left, and-right, and-both, told}
-use Rattle.refusal.specs.Answer.{Answer, accepted, refused}
+use lib.Dec.{eqb}
+use Rattle.laws.proofs.Tests.{and-left, and-right, and-both, told, never}
+use Rattle.laws.proofs.ListLaws.{two-is}
+use Rattle.refusal.specs.Answer.{Answer, accepted}
 use Rattle.refusal.specs.declared.Verdict.{Verdict}
 use Rattle.refusal.specs.declared.Verdict.the-variants.{Done, Refused}
-use Rattle.codec.specs.Codec.{Got, got, bad, Codec}
+use Rattle.codec.specs.Codec.{Got, got, wrong, Codec}
 use Rattle.codec.proofs.Exact.{Exact}
-use Rattle.frame.specs.Frame.{sumOf, ending, endingWidth, framed, ends, sums, opening}
+use Rattle.frame.specs.Frame.{sumOf, ending, endingWidth, framed, isEnded, sums, opening}
 use Rattle.frame.specs.Message.{found, afterwards, readOf, messageOf}
 
 -- ---- what the small words say
@@ -24,17 +25,17 @@ use Rattle.frame.specs.Message.{found, afterwards, readOf, messageOf}
 afterwards-is : {A : Type 0} (v : Verdict) (k : Answer A) (a : A) → afterwards v k ≡ accepted a → (v ≡ Done) × (k ≡ accepted a)
 unfolding afterwards
 afterwards-is Done k a e = (refl, e)
-afterwards-is (Refused r) k a e = absurd (let z : _≡_ {A = ℕ} 0 1 = cc in omega arith)
+afterwards-is (Refused r) k a e = never (cc)
 
 found-is : {A : Type 0} (q : Got A) (a : A) → found q ≡ accepted a → q ≡ got a
 unfolding found
 found-is (got b) a e = cc
-found-is (bad i) a e = absurd (let z : _≡_ {A = ℕ} 0 1 = cc in omega arith)
+found-is (wrong i) a e = never (cc)
 
 -- a message opens where its length, its end and its checksum are right
 pub record Opens (checksum : Bool) (w : ℕ) (m : List ℕ) : Type 0 where
   pub long : length m ≡ w + endingWidth checksum
-  pub ended : ends m ≡ true
+  pub ended : isEnded m ≡ true
   pub summed : checksum ≡ true → sums w m ≡ true
 
 pub opens : (checksum : Bool) (w : ℕ) (m : List ℕ) → opening checksum w m ≡ Done → Opens checksum w m
@@ -42,14 +43,14 @@ unfolding opening
 opens checksum w m e =
     told (eqb (length m) (w + endingWidth checksum))
     (λ l.
-    told (ends m)
+    told (isEnded m)
     (λ n. record {
       long = eqb-true _ _ l;
       ended = n;
-      summed = λ on. told (sums w m) (λ s. s) (λ s. absurd (let z : _≡_ {A = ℕ} 0 1 = cc (rw (l, n, on, s) at e) in omega arith));
+      summed = λ on. told (sums w m) (λ s. s) (λ s. never (cc (rw (l, n, on, s) at e)));
     })
-    (λ n. absurd (let z : _≡_ {A = ℕ} 0 1 = cc (rw (l, n) at e) in omega arith)))
-    (λ l. absurd (let z : _≡_ {A = ℕ} 0 1 = cc (rw l at e) in omega arith))
+    (λ n. never (cc (rw (l, n) at e))))
+    (λ l. never (cc (rw l at e)))
 
 pub opened : (checksum : Bool) (w : ℕ) (m : List ℕ) → Opens checksum w m → opening checksum w m ≡ Done
 unfolding opening
@@ -57,12 +58,6 @@ opened true w m o = rw (eq-eqb _ _ (o .long), o .ended, o .summed refl)
 opened false w m o = rw (eq-eqb _ _ (o .long), o .ended)
 
 -- ---- the ending of a message that opens is the ending of its contents
-
-two-is : (s : List ℕ) → length s ≡ 2 → s ≡ getD s 0 0 ∷ getD s 1 0 ∷ []
-two-is [] l = absurd (omega arith)
-two-is (a ∷ []) l = absurd (omega arith)
-two-is (a ∷ b ∷ []) l = refl
-two-is (a ∷ b ∷ c ∷ s) l = absurd (omega arith)
 
 four-is : (s : List ℕ) → length s ≡ 4 → s ≡ getD s 0 0 ∷ getD s 1 0 ∷ drop 2 s
 four-is [] l = absurd (omega arith)
@@ -73,8 +68,8 @@ at : (m : List ℕ) (w k j v : ℕ) → w + k ≡ j → eqb (getD m j 0) v ≡ t
 at m w k j v e h = getD-drop w m k 0 ∙ ap (λ (x : ℕ). getD m x 0) e ∙ eqb-true (getD m j 0) v h
 
 -- LF CR, k bytes behind the contents
-ended-at : (m : List ℕ) (w k : ℕ) → length m ≡ w + (k + 2) → ends m ≡ true → drop (w + k) m ≡ 10 ∷ 13 ∷ []
-unfolding ends
+ended-at : (m : List ℕ) (w k : ℕ) → length m ≡ w + (k + 2) → isEnded m ≡ true → drop (w + k) m ≡ 10 ∷ 13 ∷ []
+unfolding isEnded
 ended-at m w k l e =
     let p = and-left (eqb (getD m (length m - 2) 0) 10) (eqb (getD m (length m - 1) 0) 13) e in
     let q = and-right (eqb (getD m (length m - 2) 0) 10) (eqb (getD m (length m - 1) 0) 13) e in
@@ -104,6 +99,15 @@ unfolding ending
 ending-long true s = refl
 ending-long false s = refl
 
+-- and is short, and never empty
+pub ending-short : (checksum : Bool) → endingWidth checksum ≤ endingWidth true
+ending-short true = omega arith
+ending-short false = omega arith
+
+pub ending-some : (checksum : Bool) → 0 < endingWidth checksum
+ending-some true = omega arith
+ending-some false = omega arith
+
 test-at : (b t : List ℕ) (w k j v : ℕ) → length b ≡ w → w + k ≡ j → getD t k 0 ≡ v → eqb (getD (b ++ t) j 0) v ≡ true
 test-at b t w k j v l e h =
     eq-eqb (getD (b ++ t) j 0) v (ap (λ (x : ℕ). getD (b ++ t) x 0) (sym e ∙ ap (λ (x : ℕ). x + k) (sym l)) ∙ getD-append-add b t k 0 ∙ h)
@@ -111,8 +115,8 @@ test-at b t w k j v l e h =
 pub framed-long : (checksum : Bool) (w : ℕ) (b : List ℕ) → length b ≡ w → length (framed checksum b) ≡ w + endingWidth checksum
 framed-long checksum w b l = length-append b (ending checksum b) ∙ ap₂ _+_ l (ending-long checksum b)
 
-framed-ends : (checksum : Bool) (w : ℕ) (b : List ℕ) → length b ≡ w → ends (framed checksum b) ≡ true
-unfolding ends ending
+framed-ends : (checksum : Bool) (w : ℕ) (b : List ℕ) → length b ≡ w → isEnded (framed checksum b) ≡ true
+unfolding isEnded ending
 framed-ends true w b l =
     let n = framed-long true w b l in
     and-both

@@ -1,8 +1,7 @@
 -- Demand 2 for every exact codec whose range rule is the paper's. Assumes nothing.
 use Prim.Native.Nat.{ℕ, _+_}
 use mathlib.Core.Bool.{Bool, true, false, cond}
-use mathlib.Core.List.{List}
-use mathlib.Core.Path.{_≡_, refl, sym, ap, _∙_}
+use mathlib.Core.Path.{_≡_, refl, sym, _∙_}
 use native.Mathlib.Omega.{arith}
 use Rattle.refusal.specs.declared.Refusal.{Refusal}
 use Rattle.codec.specs.Codec.{Codec}
@@ -28,6 +27,6 @@ faithful {A} c x rule low w same wide =
       writes-read = λ checksum m a e. sym (reads-only c x checksum m a e .1);
       one-contents = λ checksum a b h k e. one-contents c x checksum a b (sendable a h) (sendable b k) e;
       long = λ checksum a h. framed-long checksum w (c .print a) (x .long a (sendable a h) ∙ wide) ∙ ending-by w checksum;
-      refused-same = λ checksum a out r e. left-same c x low checksum a out r e;
-      writes-message = λ checksum a out n e. left-message c x low checksum a out n e;
+      refused-same = λ checksum a out r e. left-same c (x .long) low checksum a out r e;
+      writes-message = λ checksum a out n e. left-message c (x .long) low checksum a out n e;
     }

@@ -23,7 +23,7 @@ pub record Faithful {A : Type 0} (c : Codec A) (rule : A → ℕ) (low : ℕ →
   -- "Lengths": with checksum two bytes more
   pub long : (checksum : Bool) (a : A) → rule a ≡ 0 → length (messageOf c checksum a) ≡ cond checksum (plain + 2) plain
   -- "Refusals write nothing"
-  pub refused-same : (checksum : Bool) (a : A) (out : List ℕ) (r : Refusal) → writeOf c low checksum a out ≡ refused r → leftBy c checksum a out ≡ out
+  pub refused-same : (checksum : Bool) (a : A) (out : List ℕ) (r : Refusal) → writeOf c low checksum a out ≡ refused r → leftBy c low checksum a out ≡ out
   -- done: the message stands at the start, its length is the count, and the bytes past it are unchanged
   pub writes-message : (checksum : Bool) (a : A) (out : List ℕ) (n : ℕ) → writeOf c low checksum a out ≡ accepted n →
-      (n ≡ length (messageOf c checksum a)) × (leftBy c checksum a out ≡ messageOf c checksum a ++ drop n out)
+      (n ≡ length (messageOf c checksum a)) × (leftBy c low checksum a out ≡ messageOf c checksum a ++ drop n out)

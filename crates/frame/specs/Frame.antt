@@ -32,8 +32,8 @@ abbrev pub framed : Bool → List ℕ → List ℕ
 framed checksum s = s ++ ending checksum s
 
 -- LF CR at the end
-unfoldable pub ends : List ℕ → Bool
-ends m = eqb (getD m (length m - 2) 0) 10 && eqb (getD m (length m - 1) 0) 13
+unfoldable pub isEnded : List ℕ → Bool
+isEnded m = eqb (getD m (length m - 2) 0) 10 && eqb (getD m (length m - 1) 0) 13
 
 -- the checksum of the first w bytes behind them
 unfoldable pub sums : ℕ → List ℕ → Bool
@@ -43,5 +43,5 @@ sums w m = eqb (getD m w 0) (sumOf (take w m) .high) && eqb (getD m (w + 1) 0) (
 unfoldable pub opening : Bool → ℕ → List ℕ → Verdict
 opening checksum w m =
     cond (eqb (length m) (w + endingWidth checksum))
-    (cond (ends m) (cond checksum (cond (sums w m) Done (Refused Checksum)) Done) (Refused End))
+    (cond (isEnded m) (cond checksum (cond (sums w m) Done (Refused Checksum)) Done) (Refused End))
     (Refused (Length (length m)))

@@ -3,11 +3,12 @@
 use refusal::Refusal;
 use refusal::Verdict;
 ghost use mathlib.Core.Path.{_≡_};
-ghost use Prim.Native.Nat.{_+_, _≤_};
+ghost use Prim.Native.Nat.{_+_, _^_, _≤_, _<_};
 ghost use lib.Dec.{eqb};
 ghost use lib.ListN.{length, take};
 ghost use Rattle.laws.specs.Over.{over};
-ghost use Rattle.frame.specs.Frame.{xorFrom, sumOf, ending, endingWidth, ends, sums, opening};
+ghost use Rattle.frame.specs.Frame.{xorFrom, sumOf, ending, endingWidth, isEnded, sums, opening};
+ghost use Rattle.frame.specs.Message.{roomFor, wroteOf};
 
 // The two characters of a checksum.
 pub struct Sum {
@@ -17,7 +18,7 @@ pub struct Sum {
 
 // What a writer of a message answers: the count of bytes written, or the refusal that wrote none.
 pub enum Wrote {
-    Done(usize),
+    Count(usize),
     Refused(Refusal),
 }
 
@@ -52,6 +53,18 @@ pub fn ending_width(checksum: bool) -> usize
     if checksum { 4 } else { 2 }
 }
 
+// Whether a message whose contents take width bytes fits into a memory of len: what its writer answers.
+pub fn room_for(len: usize, width: usize, checksum: bool) -> Wrote
+    requires { ⌜ width < 2 ^ 32 ⌝ }
+    ensures { λ r. ⌜ r ≡ wroteOf (roomFor (width + endingWidth checksum) len) ⌝ }
+{
+    let n = width + ending_width(checksum);
+    if len < n {
+        return Wrote::Refused(Refusal::Room(n));
+    }
+    Wrote::Count(n)
+}
+
 // Ends the message whose contents are the first n bytes.
 pub fn put_ending(out: &mut [u8], n: usize, checksum: bool)
     ensures { λ _. ⌜ now (out .exit) ≡ over (now (out .entry)) n (ending checksum (take n (now (out .entry)))) ⌝ }
@@ -60,12 +73,12 @@ pub fn put_ending(out: &mut [u8], n: usize, checksum: bool)
         return;
     }
     if !checksum {
-        lent::put_pair(out, n, 10, 13);
+        lent::put_pair(out, n, b'\n', b'\r');
         return;
     }
     let sum = sum_of(&out[0..n]);
     lent::put_pair(out, n, sum.high, sum.low);
-    lent::put_pair(out, n + 2, 10, 13);
+    lent::put_pair(out, n + 2, b'\n', b'\r');
 }
 
 // Whether a message of n bytes has width bytes of contents.
@@ -82,10 +95,10 @@ fn has_length(n: usize, width: usize, checksum: bool) -> bool
 // Whether the last two bytes are LF CR.
 fn is_ended(m: &[u8]) -> bool
     requires { ⌜ 2 ≤ length (now m) ⌝ }
-    ensures { λ r. ⌜ r ≡ ends (now (m .entry)) ⌝ }
+    ensures { λ r. ⌜ r ≡ isEnded (now (m .entry)) ⌝ }
 {
     let n = m.len();
-    (m[n - 2] == 10) & (m[n - 1] == 13)
+    (m[n - 2] == b'\n') & (m[n - 1] == b'\r')
 }
 
 // Whether the checksum of the first width bytes stands behind them.

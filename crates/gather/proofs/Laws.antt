@@ -1,54 +1,75 @@
--- The first wrong field of a run, or all of them: by fields, by groups, and with the serial as a record. Assumes nothing.
-use Prim.Native.Nat.{ℕ}
-use mathlib.Core.List.{List}
-use mathlib.Core.Path.{_≡_, refl, sym, ap, _∙_}
-use Rattle.codec.specs.Codec.{Got, got, bad, both, mapped}
-use Rattle.record.specs.Forms.{Front, Middle, Back, figuresOf, recordOf}
+-- A record found in parts: three groups and the serial, by what was read of each, are what a form made of them parses. Assumes nothing.
+use Prim.Native.Nat.{ℕ, _+_}
+use mathlib.Core.Bool.{true, false}
+use mathlib.Core.List.{List, [], _∷_}
+use mathlib.Core.Path.{_≡_, refl, sym}
+use native.Mathlib.Omega.{arith}
+use lib.ListN.{length, take, drop, length-drop}
+use lib.Seq.{take-take, drop-drop, length-take-le}
+use Rattle.laws.proofs.ListLaws.{drop-of-take, last-part}
+use Rattle.codec.specs.Codec.{Codec, Got, got, wrong, passed, both, mapped, filled, textBehind, _⊗_, viaIso}
+use Rattle.codec.proofs.Texts.{filled-whole}
+use Rattle.record.specs.Forms.{Front, Middle, Back, serial, figuresOf, recordOf, partsOf}
 use Rattle.record.specs.declared.Figures.{Figures}
 use Rattle.record.specs.declared.Record.{Record}
+use Rattle.serial.proofs.Field.{serial-read}
+use Rattle.gather.specs.Gather.{elevenSays, recordWith, recordSays}
+use Rattle.gather.specs.declared.Eleven.{Eleven}
+use Rattle.gather.specs.declared.Eleven.the-variants.{Found, Wrong}
 
--- what an answer says is what the parser found
-pub answered : {R A : Type 0} (says : R → Got A) {f k : R} {g : Got A} → says f ≡ g → f ≡ k → g ≡ says k
-answered says e v = sym e ∙ ap says v
+-- ---- with the serial
 
--- ---- two in a row
+module _ {e : Eleven} (s : List ℕ) where
+  pub figures-wrong : {i : ℕ} → e ≡ Wrong i → recordSays e s ≡ wrong i
+  unfolding recordSays elevenSays both mapped
+  figures-wrong h = rw h
 
-module _ {A B : Type 0} where
-  pub wrong-first : {p : Got A} (q : Got B) {i : ℕ} → p ≡ bad i → both p q ≡ bad i
-  unfolding both
-  wrong-first q e = rw e
+  module _ {f : Figures} (h : e ≡ Found f) where
+    pub serial-wrong : textBehind (83 ∷ []) s ≡ false → recordSays e s ≡ wrong 12
+    unfolding recordSays elevenSays both mapped passed
+    serial-wrong n = rw (h, serial-read s, n)
 
-  pub wrong-later : {p : Got A} {q : Got B} {a : A} {i : ℕ} → p ≡ got a → q ≡ bad i → both p q ≡ bad i
-  unfolding both
-  wrong-later e f = rw (e, f)
+    pub all-found : {t : List ℕ} → length s ≡ 10 → textBehind (83 ∷ []) s ≡ true → t ≡ filled 9 (take 9 (drop 1 s)) → recordSays e s ≡ got (record { figures = f; serial = t })
+    unfolding recordSays elevenSays both mapped passed
+    all-found l y n =
+        let nine : length (take 9 (drop 1 s)) ≡ 9 = length-take-le 9 (drop 1 s) (simp length-drop (omega arith)) in
+        rw (h, serial-read s, y, n, filled-whole 9 (take 9 (drop 1 s)) nine, last-part 1 9 s l)
 
-  pub right-both : {p : Got A} {q : Got B} {a : A} {b : B} → p ≡ got a → q ≡ got b → both p q ≡ got (a, b)
-  unfolding both
-  right-both e f = rw (e, f)
+-- ---- the parts of a form
 
--- the same fields as another value
-module _ {A B : Type 0} (f : A → B) where
-  pub mapped-wrong : {p : Got A} {i : ℕ} → p ≡ bad i → mapped f p ≡ bad i
-  unfolding mapped
-  mapped-wrong e = rw e
-
-  pub mapped-right : {p : Got A} {a : A} → p ≡ got a → mapped f p ≡ got (f a)
-  unfolding mapped
-  mapped-right e = rw e
-
--- ---- the groups
-
--- what was gathered, by what each group's parser found
-pub gathered : {g : Got Figures} {x y p q : Got Front} {z r : Got Back} →
-    g ≡ mapped figuresOf (both x (both y z)) → x ≡ p → y ≡ q → z ≡ r → g ≡ mapped figuresOf (both p (both q r))
-gathered e p q r = e ∙ rw (p, q, r)
-
--- fields 1 to 11 and the serial
-abbrev pub made : Figures × List ℕ → Record
-made p = record { figures = p .0; serial = p .1 }
-
-pub remade : (p : Got (Front × (Middle × Back))) (q : Got (List ℕ)) → mapped recordOf (both p q) ≡ mapped made (both (mapped figuresOf p) q)
+remade : (p : Got (Front × (Middle × Back))) (q : Got (List ℕ)) → mapped recordOf (both p q) ≡ mapped recordWith (both (mapped figuresOf p) q)
 unfolding mapped both
 remade (got a) (got b) = refl
-remade (got a) (bad i) = refl
-remade (bad i) q = refl
+remade (got a) (wrong i) = refl
+remade (wrong i) q = refl
+
+module _ (front : Codec Front) (middle : Codec Middle) (back : Codec Back) (i j k : ℕ) (p : front .width ≡ i) (q : middle .width ≡ j) (r : back .width ≡ k) (s : List ℕ) (l : length s ≡ i + (j + k) + 10) where
+  -- three groups, and the serial behind them
+  abbrev form : Codec Record
+  form = viaIso recordOf partsOf ((front ⊗ (middle ⊗ back)) ⊗ serial)
+
+  record-parts : form .parse s ≡
+      mapped recordWith (both (mapped figuresOf (both (front .parse (take i s)) (both (middle .parse (take j (drop i s))) (back .parse (take k (drop (i + j) s))))))
+      (serial .parse (take 10 (drop (i + (j + k)) s))))
+  record-parts =
+      let x : drop i (take (i + (j + k)) s) ≡ take (j + k) (drop i s) = drop-of-take i (j + k) (i + (j + k)) s refl in
+      let y : drop j (take (j + k) (drop i s)) ≡ take k (drop j (drop i s)) = drop-of-take j k (j + k) (drop i s) refl in
+      rw (
+        p,
+        q,
+        r,
+        take-take i (i + (j + k)) s (omega arith),
+        x,
+        take-take j (j + k) (drop i s) (omega arith),
+        y,
+        drop-drop j i s,
+        last-part (i + (j + k)) 10 s l,
+      )
+      (remade _ _)
+
+  -- what was read of the parts and gathered
+  pub record-found : {f : Got Front} {m : Got Middle} {b : Got Back} (e : Eleven) →
+      f ≡ front .parse (take i s) → m ≡ middle .parse (take j (drop i s)) → b ≡ back .parse (take k (drop (i + j) s)) →
+      elevenSays e ≡ mapped figuresOf (both f (both m b)) → recordSays e (take 10 (drop (i + (j + k)) s)) ≡ form .parse s
+  unfolding recordSays
+  record-found e x y z g = rw (g, x, y, z) (sym record-parts)

@@ -1,25 +1,63 @@
--- What `gather` promises leaves one answer: what is said of an answer tells which it is. Assumes nothing.
+-- What each function promises leaves one answer, and so does what the readers of the groups promise. Assumes nothing.
+use Prim.Native.Nat.{ℕ}
+use mathlib.Core.List.{List}
 use mathlib.Core.Path.{_≡_, refl, sym, ap, _∙_}
-use Rattle.codec.specs.Codec.{Got, got, bad, mapped, both}
-use Rattle.record.specs.Forms.{figuresOf}
+use Rattle.laws.proofs.OneAnswer.{one-answer}
+use Rattle.frame.specs.Message.{found}
+use Rattle.codec.specs.Codec.{Got, got, wrong, mapped, both}
+use Rattle.record.specs.Forms.{Front, Back, figuresOf}
+use Rattle.record.specs.Record.{recordRead}
 use Rattle.record.specs.declared.Figures.{Figures}
-use Rattle.gather.specs.Gather.{fourSays, threeSays, elevenSays}
+use Rattle.record.specs.declared.RecordRead.{RecordRead}
+use Rattle.gather.specs.Gather.{fourSays, threeSays, elevenSays, recordSays}
 use Rattle.gather.specs.declared.Four.{Four}
+use Rattle.gather.specs.declared.Four.the-variants as four
 use Rattle.gather.specs.declared.Three.{Three}
+use Rattle.gather.specs.declared.Three.the-variants as three
 use Rattle.gather.specs.declared.Eleven.{Eleven}
-use Rattle.gather.specs.declared.Eleven.the-variants.{Found, First}
+use Rattle.gather.specs.declared.Eleven.the-variants as eleven
 
--- the answer of which this is said
-said : Got Figures → Eleven
-said (got f) = Found f
-said (bad i) = First i
+-- what is said of an answer tells which it is
+told-by : {R A : Type 0} (says : R → A) (said : A → R) (back : (r : R) → said (says r) ≡ r) {g : A} {r r′ : R} → says r ≡ g → says r′ ≡ g → r ≡ r′
+told-by says said back {r = r} {r′} e e′ = sym (back r) ∙ ap said (e ∙ sym e′) ∙ back r′
 
-said-back : (r : Eleven) → said (elevenSays r) ≡ r
-unfolding said elevenSays
-said-back (Found f) = refl
-said-back (First i) = refl
+saidFour : Got Front → Four
+saidFour (got p) = four.Found (p .0) (p .1 .0) (p .1 .1 .0) (p .1 .1 .1)
+saidFour (wrong i) = four.Wrong i
+
+four-back : (r : Four) → saidFour (fourSays r) ≡ r
+unfolding saidFour fourSays
+four-back (four.Found a b c d) = refl
+four-back (four.Wrong i) = refl
+
+pub one-four : {g : Got Front} {r r′ : Four} → fourSays r ≡ g → fourSays r′ ≡ g → r ≡ r′
+one-four = told-by fourSays saidFour four-back
+
+saidThree : Got Back → Three
+saidThree (got p) = three.Found (p .0) (p .1 .0) (p .1 .1)
+saidThree (wrong i) = three.Wrong i
+
+three-back : (r : Three) → saidThree (threeSays r) ≡ r
+unfolding saidThree threeSays
+three-back (three.Found v e z) = refl
+three-back (three.Wrong i) = refl
+
+pub one-three : {g : Got Back} {r r′ : Three} → threeSays r ≡ g → threeSays r′ ≡ g → r ≡ r′
+one-three = told-by threeSays saidThree three-back
+
+saidEleven : Got Figures → Eleven
+saidEleven (got f) = eleven.Found f
+saidEleven (wrong i) = eleven.Wrong i
+
+eleven-back : (r : Eleven) → saidEleven (elevenSays r) ≡ r
+unfolding saidEleven elevenSays
+eleven-back (eleven.Found f) = refl
+eleven-back (eleven.Wrong i) = refl
 
 pub one-gather : (front middle : Four) (back : Three) {r r′ : Eleven} →
     elevenSays r ≡ mapped figuresOf (both (fourSays front) (both (fourSays middle) (threeSays back))) →
     elevenSays r′ ≡ mapped figuresOf (both (fourSays front) (both (fourSays middle) (threeSays back))) → r ≡ r′
-one-gather front middle back {r} {r′} e e′ = sym (said-back r) ∙ ap said (e ∙ sym e′) ∙ said-back r′
+one-gather front middle back = told-by elevenSays saidEleven eleven-back
+
+pub one-with-serial : (eleven : Eleven) (s : List ℕ) {a a′ : RecordRead} → a ≡ recordRead (found (recordSays eleven s)) → a′ ≡ recordRead (found (recordSays eleven s)) → a ≡ a′
+one-with-serial eleven s = one-answer

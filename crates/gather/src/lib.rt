@@ -1,27 +1,33 @@
 // What a reader of a record finds, group by group, the same in both forms: the fields of a group, or
 // the first of them that no writer writes.
 use record::Figures;
+use record::Record;
+use record::RecordRead;
+use refusal::Refusal;
 ghost use mathlib.Core.Path.{_≡_};
+ghost use lib.ListN.{length};
 ghost use Rattle.codec.specs.Codec.{mapped, both};
+ghost use Rattle.frame.specs.Message.{found};
 ghost use Rattle.record.specs.Forms.{figuresOf};
-ghost use Rattle.gather.specs.Gather.{fourSays, threeSays, elevenSays};
+ghost use Rattle.record.specs.Record.{recordRead};
+ghost use Rattle.gather.specs.Gather.{fourSays, threeSays, elevenSays, recordSays};
 
 // Fields 1 to 4 or 5 to 8, or the first wrong one.
 pub enum Four {
     Found(u32, u32, u32, u32),
-    First(u32),
+    Wrong(u32),
 }
 
 // Fields 9 to 11, or the first wrong one.
 pub enum Three {
     Found(u32, i32, u32),
-    First(u32),
+    Wrong(u32),
 }
 
 // Fields 1 to 11, or the first wrong one.
 pub enum Eleven {
     Found(Figures),
-    First(u32),
+    Wrong(u32),
 }
 
 // The three groups as fields 1 to 11; of several wrong fields the first.
@@ -29,11 +35,11 @@ pub fn gather(front: Four, middle: Four, back: Three) -> Eleven
     ensures { λ r. ⌜ elevenSays r ≡ mapped figuresOf (both (fourSays front) (both (fourSays middle) (threeSays back))) ⌝ }
 {
     match front {
-        Four::First(i) => Eleven::First(i),
+        Four::Wrong(i) => Eleven::Wrong(i),
         Four::Found(focus, aperture, stop, tenth) => match middle {
-            Four::First(j) => Eleven::First(j),
+            Four::Wrong(j) => Eleven::Wrong(j),
             Four::Found(focal, hyperfocal, near, far) => match back {
-                Three::First(k) => Eleven::First(k),
+                Three::Wrong(k) => Eleven::Wrong(k),
                 Three::Found(view, pupil, zoom) => Eleven::Found(Figures {
                     focus,
                     aperture,
@@ -49,5 +55,22 @@ pub fn gather(front: Four, middle: Four, back: Three) -> Eleven
                 }),
             },
         },
+    }
+}
+
+// Fields 1 to 11 and the bytes of field 12 as a record, or the first wrong field.
+pub fn with_serial(eleven: Eleven, s: &[u8]) -> RecordRead
+    requires { ⌜ length (now s) ≡ 10 ⌝ }
+    ensures { λ a. ⌜ a ≡ recordRead (found (recordSays eleven (now (s .entry)))) ⌝ }
+{
+    match eleven {
+        Eleven::Wrong(i) => record::refused_record(Refusal::Contents(i)),
+        Eleven::Found(figures) => {
+            if !codec::is_behind(s, b"S") {
+                return record::refused_record(Refusal::Contents(12));
+            }
+            let serial = serial::nine_of(&s[1..10]);
+            record::accepted_record(Record { figures, serial })
+        }
     }
 }

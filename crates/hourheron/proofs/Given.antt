@@ -3,23 +3,19 @@
 use Prim.Native.Nat.{ℕ}
 use mathlib.Core.List.{List}
 use mathlib.Core.Path.{_≡_, sym, ap, _∙_}
-use borrow.Author.Tests.{eqb-true}
-use lib.Dec.{eqb}
 use lib.ListN.{length}
-use Rattle.laws.proofs.Tests.{and-left}
-use Rattle.codec.specs.Codec.{Codec, printable}
+use Rattle.codec.specs.Codec.{Codec, filled}
+use Rattle.codec.proofs.Texts.{text-long, filled-whole, filled-ok}
 use Rattle.codec.proofs.Exact.{first-zero, holds}
 use Rattle.record.specs.Record.{recordLowest}
 use Rattle.record.specs.declared.Figures.{Figures}
 use Rattle.record.specs.declared.Record.{Record}
-use Rattle.serial.specs.Serial.{nineOf}
-use Rattle.serial.proofs.Field.{nine-is}
-use Rattle.fixed.specs.Fixed.{textOk, fixedOf, filled}
+use Rattle.fixed.specs.Fixed.{fixedOf, fixedFilled}
 use Rattle.fixed.specs.Form.{fixedForm}
 use Rattle.fixed.specs.declared.Fixed.{Fixed}
 use Rattle.fixed.specs.declared.Lens.{Lens}
 use Rattle.fixed.proofs.Exact.{fixed-lowest}
-use Rattle.fixed.proofs.Given.{items-long, filled-ok, filled-items, filled-lowest}
+use Rattle.fixed.proofs.Given.{items-long, filled-items, filled-lowest}
 use Rattle.hourheron.specs.Host.{withSerial}
 
 -- f is out of range by the same field or item as a, or is a
@@ -32,20 +28,20 @@ pub serial-long : (r : Record) → recordLowest r ≡ 0 → length (r .serial) �
 unfolding recordLowest
 serial-long r z =
     let s = first-zero _ _ z in
-    eqb-true (length (r .serial)) 9 (and-left (eqb (length (r .serial)) 9) (printable (r .serial)) (holds _ 11 (s .1)))
+    text-long 9 (r .serial) (holds _ 11 (s .1))
 
-nine-lowest : (f : Figures) (s : List ℕ) → recordLowest (withSerial f (nineOf s)) ≡ recordLowest (withSerial f s)
-unfolding recordLowest textOk
+nine-lowest : (f : Figures) (s : List ℕ) → recordLowest (withSerial f (filled 9 s)) ≡ recordLowest (withSerial f s)
+unfolding recordLowest
 nine-lowest f s = rw (filled-ok 8 s)
 
 pub stands-record : (form : Codec Record) (rule : (r : Record) → form .lowest r ≡ recordLowest r) (f : Figures) (s : List ℕ) {r : Record} →
-    r ≡ withSerial f (nineOf s) → StandsFor form r (withSerial f s)
+    r ≡ withSerial f (filled 9 s) → StandsFor form r (withSerial f s)
 stands-record form rule f s e = record {
   alike = ap (λ (x : Record). form .lowest x) e ∙ rule _ ∙ nine-lowest f s ∙ sym (rule _);
-  same = λ z. e ∙ ap (withSerial f) (nine-is s (serial-long (withSerial f s) (sym (rule _) ∙ z)));
+  same = λ z. e ∙ ap (withSerial f) (filled-whole 9 s (serial-long (withSerial f s) (sym (rule _) ∙ z)));
 }
 
-pub stands-fixed : (s o : List ℕ) (l : Lens) (v : List ℕ) {f : Fixed} → f ≡ fixedOf (filled 9 s) (filled 31 o) l (filled 4 v) → StandsFor fixedForm f (fixedOf s o l v)
+pub stands-fixed : (s o : List ℕ) (l : Lens) (v : List ℕ) {f : Fixed} → f ≡ fixedFilled s o l v → StandsFor fixedForm f (fixedOf s o l v)
 stands-fixed s o l v e = record {
   alike = ap (λ (x : Fixed). fixedForm .lowest x) e ∙ fixed-lowest _ ∙ filled-lowest s o l v ∙ sym (fixed-lowest _);
   same = λ z. e ∙ filled-items s o l v (items-long (fixedOf s o l v) (sym (fixed-lowest _) ∙ z));

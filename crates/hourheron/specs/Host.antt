@@ -2,18 +2,15 @@
 use Prim.Native.Nat.{ℕ, _+_, _*_}
 use mathlib.Core.Bool.{Bool}
 use mathlib.Core.List.{List}
-use lib.Dec.{leb}
 use lib.IntN.{ℤ, pos}
-use lib.ListN.{length}
 use Rattle.laws.specs.Gives.{Gives}
-use Rattle.laws.specs.Over.{over}
 use Rattle.refusal.specs.Refusal.{numberOf, valueOf}
-use Rattle.refusal.specs.Answer.{Answer, accepted, refused, unless}
+use Rattle.refusal.specs.Answer.{Answer, accepted, refused}
 use Rattle.refusal.specs.declared.Refusal.{Refusal}
-use Rattle.refusal.specs.declared.Refusal.the-variants.{Room}
+use Rattle.refusal.specs.declared.Verdict.{Verdict}
 use Rattle.codec.specs.Codec.{Codec}
 use Rattle.frame.specs.Frame.{sumOf}
-use Rattle.frame.specs.Message.{writeOf, leftBy}
+use Rattle.frame.specs.Message.{afterwards, thenWrite, thenLeft, writeOf, leftBy}
 use Rattle.frame.specs.declared.Wrote.{Wrote}
 use Rattle.frame.specs.declared.Wrote.the-variants as wrote
 use Rattle.record.specs.declared.Figures.{Figures}
@@ -31,7 +28,7 @@ answerOf (refused x) = record { number = numberOf x; value = valueOf x }
 
 -- the same of what a writer answers
 abbrev pub answerTo : Wrote → host.Answer
-answerTo (wrote.Done n) = answerOf (accepted n)
+answerTo (wrote.Count n) = answerOf (accepted n)
 answerTo (wrote.Refused x) = answerOf (refused x)
 
 -- done: the number; refused: the field. What does not come with an answer is zero
@@ -46,7 +43,7 @@ checksumOf s = sumOf s .high * 256 + sumOf s .low
 -- ---- a writer: the answer and the memory of any message
 
 abbrev pub Writes : {A : Type 0} → Codec A → (ℕ → Refusal) → Bool → A → List ℕ → host.Answer → List ℕ → Type 0
-Writes form low checksum a out r after = Gives (answerOf (writeOf form low checksum a out)) (leftBy form checksum a out) r after
+Writes form low checksum a out r after = Gives (answerOf (writeOf form low checksum a out)) (leftBy form low checksum a out) r after
 
 -- a record of fields and a serial of any length
 abbrev pub recordFrom : ℕ → ℕ → ℕ → ℕ → ℕ → ℕ → ℕ → ℕ → ℕ → ℤ → ℕ → List ℕ → Record
@@ -85,17 +82,12 @@ withSerial f serial = record { figures = f; serial = serial }
 
 -- ---- a reader: refused as the message is; then 2 with the bytes that the contents take; else their count
 
-unfoldable pub laidOf : {A : Type 0} → ℕ → Answer A → List ℕ → Answer ℕ
-laidOf width (accepted a) out = unless (leb width (length out)) (Room width) (accepted width)
-laidOf width (refused x) out = refused x
-
--- the contents at the start of the lent memory, the rest as it was; a refusal writes nothing
-unfoldable pub laidBy : {A : Type 0} → (A → List ℕ) → Answer A → List ℕ → List ℕ
-laidBy bytes (accepted a) out = over out 0 (bytes a)
-laidBy bytes (refused x) out = out
+-- what a reader below answers: a verdict, and the contents beside it
+abbrev pub toldBy : {A : Type 0} → Verdict → A → Answer A
+toldBy v a = afterwards v (accepted a)
 
 abbrev pub Lays : {A : Type 0} → (A → List ℕ) → ℕ → Answer A → List ℕ → host.Answer → List ℕ → Type 0
-Lays bytes width read out r after = Gives (answerOf (laidOf width read out)) (laidBy bytes read out) r after
+Lays bytes width read out r after = Gives (answerOf (thenWrite width read out)) (thenLeft bytes read out) r after
 
 -- ---- a question about a message: refused as the message is
 

@@ -8,22 +8,21 @@ use lib.ListN.{length, drop}
 use Rattle.refusal.specs.Answer.{accepted, refused}
 use Rattle.refusal.specs.declared.Refusal.{Refusal}
 use Rattle.codec.specs.Codec.{Codec}
-use Rattle.frame.specs.Message.{readOf}
+use Rattle.frame.specs.Message.{readOf, thenWrite, thenLeft}
 use Rattle.record.specs.Forms.{textForm, packedForm}
 use Rattle.fixed.specs.Form.{fixedForm}
 use Rattle.layout.specs.Layout.{recordBytes, recordWidth, fixedBytes, fixedWidth}
-use Rattle.hourheron.specs.Host.{laidOf, laidBy}
 
 -- refusals write nothing
 abbrev pub RefusedSame : {A : Type 0} → Codec A → (A → List ℕ) → ℕ → Type 0
 RefusedSame form bytes width =
-    (checksum : Bool) (m out : List ℕ) (x : Refusal) → laidOf width (readOf form checksum m) out ≡ refused x → laidBy bytes (readOf form checksum m) out ≡ out
+    (checksum : Bool) (m out : List ℕ) (x : Refusal) → thenWrite width (readOf form checksum m) out ≡ refused x → thenLeft bytes (readOf form checksum m) out ≡ out
 
 -- done: the count is as long as the contents, which stand at the start, and the bytes past them are unchanged
 abbrev pub LaysContents : {A : Type 0} → Codec A → (A → List ℕ) → ℕ → Type 0
 LaysContents {A} form bytes width =
-    (checksum : Bool) (m out : List ℕ) (a : A) (n : ℕ) → readOf form checksum m ≡ accepted a → laidOf width (readOf form checksum m) out ≡ accepted n →
-    (n ≡ length (bytes a)) × (laidBy bytes (readOf form checksum m) out ≡ bytes a ++ drop n out)
+    (checksum : Bool) (m out : List ℕ) (a : A) (n : ℕ) → readOf form checksum m ≡ accepted a → thenWrite width (readOf form checksum m) out ≡ accepted n →
+    (n ≡ length (bytes a)) × (thenLeft bytes (readOf form checksum m) out ≡ bytes a ++ drop n out)
 
 -- of the three readers
 pub record Promised : Type 0 where

@@ -14,16 +14,16 @@ use units::Converted;
 ghost use mathlib.Core.Path.{_≡_};
 ghost use Rattle.refusal.specs.Answer.{accepted, refused};
 ghost use Rattle.refusal.specs.declared.Refusal.the-variants.{Field, Setting};
-ghost use Rattle.frame.specs.Message.{afterwards, readOf};
+ghost use Rattle.frame.specs.Message.{readOf, roomFor};
+ghost use Rattle.codec.specs.Codec.{filled};
 ghost use Rattle.record.specs.Forms.{textForm, packedForm};
-ghost use Rattle.serial.specs.Serial.{nineOf};
 ghost use Rattle.fixed.specs.Form.{fixedForm};
 ghost use Rattle.nreader.specs.Reader.{ownerAt, ownerLength};
 ghost use Rattle.laws.specs.Gives.{Gives};
 ghost use Rattle.collector.specs.Collect.{lineAfter, collected};
 ghost use Rattle.units.specs.Units.{conversion};
 ghost use Rattle.layout.specs.Layout.{recordBytes, recordWidth, fixedBytes, fixedWidth};
-ghost use Rattle.hourheron.specs.Host.{answerOf, answerTo, conversionOf, checksumOf, Writes, recordFrom, fixedFrom, withSerial, Lays, askedOf};
+ghost use Rattle.hourheron.specs.Host.{answerOf, answerTo, conversionOf, checksumOf, Writes, recordFrom, fixedFrom, withSerial, toldBy, Lays, askedOf};
 
 // The refusal's number, or 0; and the value that comes with it, or the count.
 #[repr(C)]
@@ -64,9 +64,19 @@ fn answer_to(w: Wrote) -> Answer
     ensures { λ r. ⌜ r ≡ answerTo w ⌝ }
 {
     match w {
-        Wrote::Done(n) => done(n),
+        Wrote::Count(n) => done(n),
         Wrote::Refused(x) => refuse(x),
     }
+}
+
+// 2 with the bytes that are needed, or their count.
+fn answer_room(width: usize, room: usize) -> Answer
+    ensures { λ r. ⌜ r ≡ answerOf (roomFor width room) ⌝ }
+{
+    if room < width {
+        return refuse(Refusal::Room(width));
+    }
+    done(width)
 }
 
 // ---- the conversion and the checksum
@@ -104,27 +114,13 @@ pub extern "C" fn heron_checksum(bytes: &[u8]) -> Answer
 // The record of fields and a serial that are handed in one by one. A serial of another length is left as zeros, which no
 // text holds: the writers refuse it as field 12.
 fn record_given(figures: Figures, serial: &[u8]) -> Record
-    ensures { λ r. ⌜ r ≡ withSerial figures (nineOf (now (serial .entry))) ⌝ }
+    ensures { λ r. ⌜ r ≡ withSerial figures (filled 9 (now (serial .entry))) ⌝ }
 {
     let nine = serial::nine_of(serial);
     Record {
         figures,
         serial: nine,
     }
-}
-
-fn send_text(figures: Figures, serial: &[u8], checksum: bool, out: &mut [u8]) -> Answer
-    ensures { λ r. ⌜ Writes textForm Field checksum (withSerial figures (now (serial .entry))) (now (out .entry)) r (now (out .exit)) ⌝ }
-{
-    let record = record_given(figures, serial);
-    answer_to(text_writer::write_text(record, checksum, out))
-}
-
-fn send_packed(figures: Figures, serial: &[u8], checksum: bool, out: &mut [u8]) -> Answer
-    ensures { λ r. ⌜ Writes packedForm Field checksum (withSerial figures (now (serial .entry))) (now (out .entry)) r (now (out .exit)) ⌝ }
-{
-    let record = record_given(figures, serial);
-    answer_to(packed_writer::write_packed(record, checksum, out))
 }
 
 // Writes a record as text.
@@ -145,7 +141,9 @@ pub extern "C" fn heron_write_text(
     checksum: bool,
     out: &mut [u8],
 ) -> Answer
-    ensures { λ r. ⌜ Writes textForm Field checksum (recordFrom focus aperture stop tenth focal hyperfocal near far view pupil zoom (now (serial .entry))) (now (out .entry)) r (now (out .exit)) ⌝ }
+    ensures { λ r.
+        let given = recordFrom focus aperture stop tenth focal hyperfocal near far view pupil zoom (now (serial .entry)) in
+        ⌜ Writes textForm Field checksum given (now (out .entry)) r (now (out .exit)) ⌝ }
 {
     let figures = Figures {
         focus,
@@ -160,7 +158,8 @@ pub extern "C" fn heron_write_text(
         pupil,
         zoom,
     };
-    send_text(figures, serial, checksum, out)
+    let record = record_given(figures, serial);
+    answer_to(text_writer::write_text(record, checksum, out))
 }
 
 // Writes a record packed.
@@ -181,7 +180,9 @@ pub extern "C" fn heron_write_packed(
     checksum: bool,
     out: &mut [u8],
 ) -> Answer
-    ensures { λ r. ⌜ Writes packedForm Field checksum (recordFrom focus aperture stop tenth focal hyperfocal near far view pupil zoom (now (serial .entry))) (now (out .entry)) r (now (out .exit)) ⌝ }
+    ensures { λ r.
+        let given = recordFrom focus aperture stop tenth focal hyperfocal near far view pupil zoom (now (serial .entry)) in
+        ⌜ Writes packedForm Field checksum given (now (out .entry)) r (now (out .exit)) ⌝ }
 {
     let figures = Figures {
         focus,
@@ -196,26 +197,25 @@ pub extern "C" fn heron_write_packed(
         pupil,
         zoom,
     };
-    send_packed(figures, serial, checksum, out)
+    let record = record_given(figures, serial);
+    answer_to(packed_writer::write_packed(record, checksum, out))
 }
 
 // ---- the readers of a record
 
-// Puts what a reader answered into the lent memory: 53 bytes.
+// Puts what a reader answered into the lent memory. (Without room nothing is put.)
 fn lay_record(read: RecordRead, out: &mut [u8]) -> Answer
-    ensures { λ r. ⌜ Lays recordBytes recordWidth (afterwards (read .verdict) (accepted (read .contents))) (now (out .entry)) r (now (out .exit)) ⌝ }
+    ensures { λ r. ⌜ Lays recordBytes recordWidth (toldBy (read .verdict) (read .contents)) (now (out .entry)) r (now (out .exit)) ⌝ }
 {
     let verdict = read.verdict;
     match verdict {
-        Verdict::Refused(x) => refuse(x),
         Verdict::Done => {
-            if out.len() < 53 {
-                return refuse(Refusal::Room(53));
-            }
+            let room = out.len();
             let contents = read.contents;
             layout::put_record(out, contents);
-            done(53)
+            answer_room(layout::RECORD_WIDTH, room)
         }
+        Verdict::Refused(x) => refuse(x),
     }
 }
 
@@ -251,7 +251,9 @@ pub extern "C" fn heron_write_fixed(
     checksum: bool,
     out: &mut [u8],
 ) -> Answer
-    ensures { λ r. ⌜ Writes fixedForm Setting checksum (fixedFrom (now (serial .entry)) (now (owner .entry)) kind focal maximum letter transmission (now (version .entry))) (now (out .entry)) r (now (out .exit)) ⌝ }
+    ensures { λ r.
+        let given = fixedFrom (now (serial .entry)) (now (owner .entry)) kind focal maximum letter transmission (now (version .entry)) in
+        ⌜ Writes fixedForm Setting checksum given (now (out .entry)) r (now (out .exit)) ⌝ }
 {
     let lens = Lens {
         kind,
@@ -264,21 +266,19 @@ pub extern "C" fn heron_write_fixed(
     answer_to(nwriter::write_fixed(fixed, checksum, out))
 }
 
-// Puts what the reader answered into the lent memory: 51 bytes.
+// Puts what the reader answered into the lent memory. (Without room nothing is put.)
 fn lay_fixed(read: FixedRead, out: &mut [u8]) -> Answer
-    ensures { λ r. ⌜ Lays fixedBytes fixedWidth (afterwards (read .verdict) (accepted (read .contents))) (now (out .entry)) r (now (out .exit)) ⌝ }
+    ensures { λ r. ⌜ Lays fixedBytes fixedWidth (toldBy (read .verdict) (read .contents)) (now (out .entry)) r (now (out .exit)) ⌝ }
 {
     let verdict = read.verdict;
     match verdict {
-        Verdict::Refused(x) => refuse(x),
         Verdict::Done => {
-            if out.len() < 51 {
-                return refuse(Refusal::Room(51));
-            }
+            let room = out.len();
             let contents = read.contents;
             layout::put_fixed(out, contents);
-            done(51)
+            answer_room(layout::FIXED_WIDTH, room)
         }
+        Verdict::Refused(x) => refuse(x),
     }
 }
 
@@ -298,8 +298,8 @@ pub extern "C" fn heron_owner_start(message: &[u8], checksum: bool) -> Answer
     let read = nreader::read_fixed(message, checksum);
     let verdict = read.verdict;
     match verdict {
-        Verdict::Refused(x) => refuse(x),
         Verdict::Done => done(12),
+        Verdict::Refused(x) => refuse(x),
     }
 }
 
@@ -311,12 +311,12 @@ pub extern "C" fn heron_owner_len(message: &[u8], checksum: bool) -> Answer
     let read = nreader::read_fixed(message, checksum);
     let verdict = read.verdict;
     match verdict {
-        Verdict::Refused(x) => refuse(x),
         Verdict::Done => {
             let contents = read.contents;
             let owner = contents.owner;
             done(nreader::trimmed_length(&owner))
         }
+        Verdict::Refused(x) => refuse(x),
     }
 }
 

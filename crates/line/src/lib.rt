@@ -1,6 +1,6 @@
 // The line that the port collects byte by byte, and the decision over its bytes: which command it is.
 ghost use mathlib.Core.Path.{_≡_};
-ghost use Rattle.line.specs.Line.{blank, joined, validLine};
+ghost use Rattle.line.specs.Line.{blank, ends, joined, validLine};
 ghost use Rattle.line.specs.Command.{oneByte, afterK, twoBytes, afterKb, filmOf, afterW, threeBytes, commandIn, commandOf};
 
 // The bytes that a line keeps.
@@ -151,6 +151,13 @@ impl Line {
             len: 0,
             overlong: false,
         }
+    }
+
+    // Whether a received byte ends the line: a carriage return does.
+    pub fn ends(self, byte: u8) -> bool
+        ensures { λ r. ⌜ r ≡ ends self byte ⌝ }
+    {
+        byte == b'\r'
     }
 
     // The line with one byte more, which a full line does not keep.

@@ -13,7 +13,7 @@ use Rattle.machine.proofs.Counts.{Kept, next-kept}
 use Rattle.machine.proofs.InTime.{slots-cons}
 
 module _ {r : Rules} where
-  open Rules r using (Measurement)
+  open Rules r using (Given)
 
   -- the first of the events send what is under way, in as many slots as it has bytes
   pub record Sent (s : State r) (es : Events r) : Type 0 where
@@ -27,7 +27,7 @@ module _ {r : Rules} where
   send-none (port m w [] k l) es z = record { sending = []; later = es; split = refl; bytes = refl; count = refl }
   send-none (port m w (b ∷ bs) k l) es z = absurd (omega arith)
 
-  send-step : (s : State r) (e : Event Measurement) (es : Events r) → Flow s e (next s e) (shows s e) → 0 < length (underway s) → length (underway s) ≤ slots (e ∷ es)
+  send-step : (s : State r) (e : Event Given) (es : Events r) → Flow s e (next s e) (shows s e) → 0 < length (underway s) → length (underway s) ≤ slots (e ∷ es)
       → (length (underway (next s e)) ≤ slots es → Sent (next s e) es) → Sent s (e ∷ es)
   send-step s e es (quiet z q t u) p n ih =
       let v = ih (omega (arith, z p, ap length u, slots-cons e es)) in
@@ -56,7 +56,7 @@ module _ {r : Rules} where
     messages : (d ++ underway s) ∷ started s es ≡ whole ++ (done ++ underway (run s es)) ∷ []
     bytes : d ++ sent s es ≡ joined whole ++ done
 
-  whole-step : (s : State r) (d : List ℕ) (e : Event Measurement) (es : Events r) → Flow s e (next s e) (shows s e)
+  whole-step : (s : State r) (d : List ℕ) (e : Event Given) (es : Events r) → Flow s e (next s e) (shows s e)
       → ((d′ : List ℕ) → WholeFrom (next s e) d′ es) → WholeFrom s d (e ∷ es)
   whole-step s d e es (quiet z q t u) ih =
       let v = ih d in
@@ -74,7 +74,7 @@ module _ {r : Rules} where
       }
 
   module _ {Good : r .Modes → Type 0} {W L R : ℕ} (fits : Sizes r Good W L R) where
-    send-case : (s : State r) (e : Event Measurement) (es : Events r) → Kept Good W s → length (underway s) ≤ slots (e ∷ es)
+    send-case : (s : State r) (e : Event Given) (es : Events r) → Kept Good W s → length (underway s) ≤ slots (e ∷ es)
         → (length (underway (next s e)) ≤ slots es → Sent (next s e) es) → Sent s (e ∷ es)
     send-case (port m w [] k l) e es h n ih = send-none (port m w [] k l) (e ∷ es) (omega arith)
     send-case (port m w (b ∷ bs) k l) e es h n ih =

@@ -9,9 +9,10 @@ use mathlib.Core.Option.{Option, none, some}
 use mathlib.Core.List.{List, [], _∷_}
 use lib.ListN.{length}
 use Rattle.laws.proofs.Tests.{told}
+use Rattle.laws.proofs.Tests.{never}
 use Rattle.machine.specs.Machine.{Rules, Kind, neither, a-record, a-reply, replyKind, Event, slot, slots, Events, listed, State, modes, waiting, underway, last, Out, begins, owed, sent-one, next, run, start, actedIn}
 use Rattle.machine.specs.Promised.{Sizes}
-use Rattle.machine.proofs.Slot.{never, acting, goes, owes, answers, flows, rests}
+use Rattle.machine.proofs.Slot.{acting, goes, owes, answers, flows, rests}
 use Rattle.machine.proofs.Step.{Stepped, by-slot, taking, dropping, growing, noting, stepped}
 
 -- before a waiting command: the rest of the message under way, and after a reply a record
@@ -27,7 +28,7 @@ then-reply L a-record = L
 then-reply L a-reply = 0
 
 module _ {r : Rules} where
-  open Rules r using (Modes, Command, Measurement, continuous, act, counts)
+  open Rules r using (Modes, Command, Given, continuous, act, counts)
 
   abbrev pub ahead : ℕ → State r → ℕ
   ahead R s = length (underway s) + then-record R (last s)
@@ -41,18 +42,18 @@ module _ {r : Rules} where
     pub short : length (underway s) < W
 
   -- this event is a slot that acts on the command that waits, and on no other
-  pub record Acts (c : Command) (e : Event Measurement) (o : Out r) : Type 0 where
+  pub record Acts (c : Command) (e : Event Given) (o : Out r) : Type 0 where
     pub is-slot : e ≡ slot
     pub acts : actedIn o ≡ c ∷ []
 
   -- the command still waits, and a slot made the count smaller
-  pub record Waits (R : ℕ) (c : Command) (s s′ : State r) (e : Event Measurement) (o : Out r) : Type 0 where
+  pub record Waits (R : ℕ) (c : Command) (s s′ : State r) (e : Event Given) (o : Out r) : Type 0 where
     pub no-act : actedIn o ≡ []
     pub still : waiting s′ ≡ some c
     pub less : ahead R s′ + slots (e ∷ []) ≤ ahead R s
 
   -- this event is a slot that starts a record
-  pub record Starts (e : Event Measurement) (o : Out r) : Type 0 where
+  pub record Starts (e : Event Given) (o : Out r) : Type 0 where
     pub is-slot : e ≡ slot
     pub acting : Option Command
     pub byte : ℕ
@@ -71,7 +72,7 @@ module _ {r : Rules} where
     acting-good m none g = g
     acting-good m (some c) g = act-good m c g
 
-    kept : {s s′ : State r} {e : Event Measurement} {o : Out r} → Stepped s e s′ o → Kept Good W s → Kept Good W s′
+    kept : {s s′ : State r} {e : Event Given} {o : Out r} → Stepped s e s′ o → Kept Good W s → Kept Good W s′
     kept (by-slot (goes {m} {bs = bs})) h = record { good = sent-one-good m bs (h .good); short = omega arith }
     kept (by-slot (owes {m} {bs = bs} on e)) h =
         record { good = sent-one-good m bs (h .good); short = omega (arith, record-fits m (h .good), ap length e, record-in) }
@@ -86,7 +87,7 @@ module _ {r : Rules} where
     kept (growing b) h = record { good = h .good; short = h .short }
     kept (noting {m} {x = x}) h = record { good = update-good m x (h .good); short = h .short }
 
-    pub next-kept : (s : State r) (e : Event Measurement) → Kept Good W s → Kept Good W (next s e)
+    pub next-kept : (s : State r) (e : Event Given) → Kept Good W s → Kept Good W (next s e)
     next-kept s e h = kept (stepped fits s e (h .good)) h
 
     pub run-kept : (s : State r) (es : Events r) → Kept Good W s → Kept Good W (run s es)
@@ -104,7 +105,7 @@ module _ {r : Rules} where
     owed-counted m a-record h = absurd (false≢true h)
     owed-counted m a-reply h = refl
 
-    pub toward-act : {s s′ : State r} {e : Event Measurement} {o : Out r} (c : Command) → Stepped s e s′ o → Kept Good W s → waiting s ≡ some c
+    pub toward-act : {s s′ : State r} {e : Event Given} {o : Out r} (c : Command) → Stepped s e s′ o → Kept Good W s → waiting s ≡ some c
         → Acts c e o ⊎ Waits R c s s′ e o
     toward-act c (by-slot goes) h w = inr (record { no-act = refl; still = w; less = omega arith })
     toward-act c (by-slot (owes {m} {k = k} on e)) h w = inr (record { no-act = refl; still = w; less = omega (arith, record-fits m (h .good), ap length e, owed-counted m k on) })
@@ -133,7 +134,7 @@ module _ {r : Rules} where
         (λ t. ap (λ x. then-reply L (replyKind x)) t)
         (λ t. absurd (true≢false (sym on ∙ uncounted-off m c g t)))
 
-    pub toward-record : {s s′ : State r} {e : Event Measurement} {o : Out r} → Stepped s e s′ o → Kept Good W s
+    pub toward-record : {s s′ : State r} {e : Event Given} {o : Out r} → Stepped s e s′ o → Kept Good W s
         → continuous (modes s) ≡ true → continuous (modes s′) ≡ true → Starts e o ⊎ (gap L s′ + slots (e ∷ []) ≤ gap L s)
     toward-record (by-slot goes) h on on′ = inr (omega arith)
     toward-record (by-slot (owes o e)) h on on′ = inl (record { is-slot = refl; acting = _; byte = _; others = _; starts = refl })

@@ -5,7 +5,7 @@ use mathlib.Core.Path.{_≡_, refl, ap}
 use mathlib.Core.Logic.{⊎-elim}
 use mathlib.Core.Option.{some}
 use mathlib.Core.List.{List, [], _∷_, _++_}
-use Rattle.machine.specs.Machine.{Rules, Event, received, slot, measured, slots, Events, State, waiting, next, shows, actedIn}
+use Rattle.machine.specs.Machine.{Rules, Event, received, slot, given, slots, Events, State, waiting, next, shows, actedIn}
 use Rattle.machine.specs.Promised.{Sizes, ActedBy, RecordBy, StaysOn}
 use Rattle.machine.proofs.Step.{stepped}
 use Rattle.machine.proofs.Counts.{ahead, gap, Kept, Acts, Waits, Starts, next-kept, toward-act, toward-record}
@@ -13,12 +13,12 @@ use Rattle.machine.proofs.Counts.{ahead, gap, Kept, Acts, Waits, Starts
 pub slots-cons : {X : Type 0} (e : Event X) (es : List (Event X)) → slots (e ∷ es) ≡ slots (e ∷ []) + slots es
 slots-cons (received b) es = omega arith
 slots-cons slot es = omega arith
-slots-cons (measured x) es = omega arith
+slots-cons (given x) es = omega arith
 
 module _ {r : Rules} where
-  open Rules r using (Command, Measurement)
+  open Rules r using (Command, Given)
 
-  act-now : (s : State r) (c : Command) (e : Event Measurement) (es : Events r) (n : ℕ) → Acts c e (shows s e) → ActedBy (suc n) s c (e ∷ es)
+  act-now : (s : State r) (c : Command) (e : Event Given) (es : Events r) (n : ℕ) → Acts c e (shows s e) → ActedBy (suc n) s c (e ∷ es)
   act-now s c e es n a = record {
     mid = [];
     rest = es;
@@ -28,7 +28,7 @@ module _ {r : Rules} where
     acts = rw (a .is-slot) at (a .acts);
   }
 
-  act-later : (s : State r) (c : Command) (e : Event Measurement) (es : Events r) (n n′ : ℕ) → actedIn (shows s e) ≡ [] → n′ + slots (e ∷ []) ≤ n
+  act-later : (s : State r) (c : Command) (e : Event Given) (es : Events r) (n n′ : ℕ) → actedIn (shows s e) ≡ [] → n′ + slots (e ∷ []) ≤ n
       → ActedBy (suc n′) (next s e) c es → ActedBy (suc n) s c (e ∷ es)
   act-later s c e es n n′ none-now less a = record {
     mid = e ∷ a .mid;
@@ -39,7 +39,7 @@ module _ {r : Rules} where
     acts = a .acts;
   }
 
-  record-now : (s : State r) (e : Event Measurement) (es : Events r) (n : ℕ) → Starts e (shows s e) → RecordBy (suc n) s (e ∷ es)
+  record-now : (s : State r) (e : Event Given) (es : Events r) (n : ℕ) → Starts e (shows s e) → RecordBy (suc n) s (e ∷ es)
   record-now s e es n v = record {
     mid = [];
     rest = es;
@@ -51,7 +51,7 @@ module _ {r : Rules} where
     starts = rw (v .is-slot) at (v .starts);
   }
 
-  record-later : (s : State r) (e : Event Measurement) (es : Events r) (n n′ : ℕ) → n′ + slots (e ∷ []) ≤ n → RecordBy (suc n′) (next s e) es
+  record-later : (s : State r) (e : Event Given) (es : Events r) (n n′ : ℕ) → n′ + slots (e ∷ []) ≤ n → RecordBy (suc n′) (next s e) es
       → RecordBy (suc n) s (e ∷ es)
   record-later s e es n n′ less v = record {
     mid = e ∷ v .mid;

@@ -4,5 +4,4 @@ pub mod Counts
 pub mod InTime
 pub mod Bytes
 pub mod Promise
-pub mod Fill
 pub mod Use

@@ -91,7 +91,7 @@ pub promised : {r : Rules} {Good : r .Modes → Type 0} {W L R : ℕ} → Theore
 promised {r} {Good} {W} fits m g =
     let s : Events r → State r = run (start r m) in
     let h : (es : Events r) → Kept Good W (s es) = λ es. reached fits m es g in
-    let h′ : (es : Events r) (e : Event (r .Measurement)) → Kept Good W (next (s es) e) = λ es e. next-kept fits (s es) e (h es) in
+    let h′ : (es : Events r) (e : Event (r .Given)) → Kept Good W (next (s es) e) = λ es e. next-kept fits (s es) e (h es) in
     record {
       in-order = λ es. in-order-from fits (start r m) es (h []);
       acted-in-time = λ before after e c t n. acted-by fits (next (s before) e) c after (h′ before e) (taken-waits c (stepped fits (s before) e (h before .good)) t) n;

@@ -7,12 +7,9 @@ use mathlib.Core.Bool.{Bool, true, false, cond}
 use mathlib.Core.Option.{Option, none, some}
 use mathlib.Core.List.{List, [], _∷_}
 use lib.ListN.{length}
+use Rattle.laws.proofs.Tests.{never}
 use Rattle.machine.specs.Machine.{Rules, Kind, neither, a-record, replyKind, State, port, modes, Out, begins, sends, idles, Choice, choice, owed, rules, rule2, answer, rule3, sent-one, begin, onSlot, next, shows, slot}
 use Rattle.machine.specs.Promised.{Sizes, ByRules, IdleFor}
-
--- two constructors are never equal
-pub never : {X : Type 0} → _≡_ {A = ℕ} 0 1 → X
-never z = absurd (omega arith)
 
 module _ (r : Rules) where
   open Rules r using (Modes, Command, act, replyTo)
@@ -109,7 +106,7 @@ module _ {r : Rules} where
   starts-by-rules (port m w (b′ ∷ bs′) before l) a k b bs e = never (cc)
   starts-by-rules (port m w [] before l) a k b bs e =
       let v = given-starts (rules r m w before) before l a k b bs e in
-      record { none-underway = refl; new-modes = v .0; still-waits = v .1; given = v .2 }
+      record { none-underway = refl; new-modes = v .0; still-waits = v .1; chosen = v .2 }
 
   -- an idle slot has nothing to send
   pub idle-for : {s s′ : State r} {o : Out r} (a : Option Command) → Slotted s s′ o → o ≡ idles a → IdleFor s s′

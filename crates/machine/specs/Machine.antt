@@ -4,21 +4,19 @@ use Prim.Native.Nat.{ℕ, zero, suc}
 use mathlib.Core.Bool.{Bool, true, false, cond}
 use mathlib.Core.Option.{Option, none, some}
 use mathlib.Core.List.{List, [], _∷_, _++_}
-use lib.Dec.{eqb}
-
--- the byte that ends a line
-abbrev pub CR : ℕ
-CR = 13
 
 pub record Rules : Type 1 where
-  -- all that commands, measurements and ends of messages may change
+  -- all that commands, hand-ins and ends of messages may change
   pub Modes : Type 0
-  pub Measurement : Type 0
+  -- what is handed to the port between slots
+  pub Given : Type 0
   -- a line, and what is kept of it in the waiting place
   pub Line : Type 0
   pub Command : Type 0
   pub blank : Line
   pub join : Line → ℕ → Line
+  -- does this byte end the line
+  pub ends : Line → ℕ → Bool
   pub read : Line → Command
   -- is continuous sending on, and the bytes of the record that then starts
   pub continuous : Modes → Bool
@@ -27,9 +25,9 @@ pub record Rules : Type 1 where
   pub act : Modes → Command → Modes
   pub replyTo : Modes → Command → List ℕ
   pub counts : Modes → Command → Bool
-  -- the modes after the last byte of a message, and after a new measurement
+  -- the modes after the last byte of a message, and after a hand-in
   pub ended : Modes → Modes
-  pub update : Modes → Measurement → Modes
+  pub update : Modes → Given → Modes
   -- what a start leaves to be sent
   pub greeting : List ℕ
 
@@ -51,7 +49,7 @@ pub data Out (r : Rules) : Type 0 where
   grew : Out r
   took : r .Command → Out r
   dropped : Out r
-  -- a new measurement
+  -- a hand-in
   noted : Out r
   -- a slot: the next byte of the message under way
   sends : ℕ → Out r
@@ -99,7 +97,7 @@ module _ (r : Rules) where
   sent-one m (b ∷ bs) = m
 
 module _ {r : Rules} where
-  open Rules r using (Modes, Line, Command, Measurement, blank, join, read, update)
+  open Rules r using (Modes, Line, Command, Given, blank, join, ends, read, update)
 
   abbrev pub modes : State r → Modes
   modes (port m w u k l) = m
@@ -116,17 +114,17 @@ module _ {r : Rules} where
   abbrev pub line : State r → Line
   line (port m w u k l) = l
 
-  -- At CR the line is emptied. If no command waits, the line is taken and waits. If one waits, the line is dropped.
+  -- Where the line ends, at CR, it is emptied. If no command waits, the line is taken and waits. If one waits, the line is dropped.
   unfoldable pub onReturn : State r → State r × Out r
   onReturn (port m none u k l) = (port m (some (read l)) u k blank, took (read l))
   onReturn (port m (some c) u k l) = (port m (some c) u k blank, dropped)
 
-  -- A received byte other than CR joins the line.
+  -- A received byte that does not end the line joins it.
   unfoldable pub onOther : State r → ℕ → State r × Out r
   onOther (port m w u k l) b = (port m w u k (join l b), grew)
 
   unfoldable pub onByte : State r → ℕ → State r × Out r
-  onByte s b = cond (eqb b CR) (onReturn s) (onOther s b)
+  onByte s b = cond (ends (line s) b) (onReturn s) (onOther s b)
 
   -- A message that starts is fixed then, and its first byte is sent. Where none starts, what was sent last stays.
   unfoldable pub begin : Choice r → Kind → Line → State r × Out r
@@ -138,24 +136,24 @@ module _ {r : Rules} where
   onSlot (port m w (b ∷ bs) k l) = (port (sent-one r m bs) w bs k l, sends b)
   onSlot (port m w [] k l) = begin (rules r m w k) k l
 
-  unfoldable pub onMeasured : State r → Measurement → State r × Out r
-  onMeasured (port m w u k l) x = (port (update m x) w u k l, noted)
+  unfoldable pub onGiven : State r → Given → State r × Out r
+  onGiven (port m w u k l) x = (port (update m x) w u k l, noted)
 
--- An event: a received byte, a sending slot, a new measurement. There is none for a restart.
+-- An event: a received byte, a sending slot, something handed in, as a new measurement. There is none for a restart.
 pub data Event (X : Type 0) : Type 0 where
   received : ℕ → Event X
   slot : Event X
-  measured : X → Event X
+  given : X → Event X
 
 abbrev pub Events : Rules → Type 0
-Events r = List (Event (r .Measurement))
+Events r = List (Event (r .Given))
 
 -- how many sending slots are among them
 abbrev pub slots : {X : Type 0} → List (Event X) → ℕ
 slots [] = zero
 slots (received b ∷ es) = slots es
 slots (slot ∷ es) = suc (slots es)
-slots (measured x ∷ es) = slots es
+slots (given x ∷ es) = slots es
 
 abbrev pub listed : {A : Type 0} → Option A → List A
 listed none = []
@@ -166,18 +164,18 @@ joined [] = []
 joined (x ∷ xs) = x ++ joined xs
 
 module _ {r : Rules} where
-  open Rules r using (Command, Measurement)
+  open Rules r using (Command, Given)
 
-  abbrev pub step : State r → Event Measurement → State r × Out r
+  abbrev pub step : State r → Event Given → State r × Out r
   step s (received b) = onByte s b
   step s slot = onSlot s
-  step s (measured x) = onMeasured s x
+  step s (given x) = onGiven s x
 
   -- the state after an event, and what the event shows
-  abbrev pub next : State r → Event Measurement → State r
+  abbrev pub next : State r → Event Given → State r
   next s e = step s e .0
 
-  abbrev pub shows : State r → Event Measurement → Out r
+  abbrev pub shows : State r → Event Given → Out r
   shows s e = step s e .1
 
   -- the state after a list of events, and what they show, end to end
@@ -237,12 +235,3 @@ module _ {r : Rules} where
 
   abbrev pub sent : State r → Events r → List ℕ
   sent s es = seen sentIn s es
-
-  -- A driver lends a buffer of n bytes: slots run until it is full or one is idle. The state after it, and the bytes written.
-  abbrev pub filled-if : List ℕ → State r → State r × List ℕ → State r × List ℕ
-  filled-if [] s t = (s, [])
-  filled-if (b ∷ bs) s t = (t .0, b ∷ (t .1))
-
-  abbrev pub filled : ℕ → State r → State r × List ℕ
-  filled zero s = (s, [])
-  filled (suc n) s = let t = filled n (next s slot) in filled-if (sentIn (shows s slot)) (next s slot) t

@@ -1,12 +1,12 @@
 -- What a port promises over every order of events (demand 3), and the sizes of its messages from which the three bounds follow.
-use Prim.Native.Nat.{ℕ, suc, _+_, _-_, _≤_, _<_}
+use Prim.Native.Nat.{ℕ, _+_, _-_, _≤_, _<_}
 use mathlib.Core.Path.{_≡_}
 use mathlib.Core.Bool.{true, false}
 use mathlib.Core.Logic.{_≢_}
 use mathlib.Core.Option.{Option, none, some}
 use mathlib.Core.List.{List, [], _∷_, _++_}
-use lib.ListN.{length, replicate}
-use Rattle.machine.specs.Machine.{CR, Rules, Kind, a-record, Event, received, slot, slots, Events, joined, listed, State, took, dropped, begins, idles, modes, waiting, underway, last, line, choice, rules, start, next, shows, run, taken, acted, started, sent, actedIn, sentIn, filled}
+use lib.ListN.{length}
+use Rattle.machine.specs.Machine.{Rules, Kind, a-record, Event, received, slot, slots, Events, joined, listed, State, took, dropped, begins, idles, modes, waiting, underway, last, line, choice, rules, start, next, shows, run, taken, acted, started, sent, actedIn}
 
 -- What a port shows of its messages. `Good` is what always holds of its modes.
 pub record Sizes (r : Rules) (Good : r .Modes → Type 0) (W L R : ℕ) : Type 0 where
@@ -24,7 +24,7 @@ pub record Sizes (r : Rules) (Good : r .Modes → Type 0) (W L R : ℕ) : Type 0
   -- whatever changes the modes keeps them good
   pub act-good : (m : r .Modes) (c : r .Command) → Good m → Good (r .act m c)
   pub ended-good : (m : r .Modes) → Good m → Good (r .ended m)
-  pub update-good : (m : r .Modes) (x : r .Measurement) → Good m → Good (r .update m x)
+  pub update-good : (m : r .Modes) (x : r .Given) → Good m → Good (r .update m x)
 
 module _ {r : Rules} where
   -- From s, one of the first `limit` slots of `after` acts on the command c, and no event before it acts on any. (The first slot is the 1st.)
@@ -64,7 +64,7 @@ module _ {r : Rules} where
     pub none-underway : underway s ≡ []
     pub new-modes : r .Modes
     pub still-waits : Option (r .Command)
-    pub given : rules r (modes s) (waiting s) (last s) ≡ choice a new-modes still-waits k message
+    pub chosen : rules r (modes s) (waiting s) (last s) ≡ choice a new-modes still-waits k message
 
   -- From s to s′ an idle slot: no message was under way, and after it no command waits and continuous sending is off.
   pub record IdleFor (s s′ : State r) : Type 0 where
@@ -80,18 +80,6 @@ module _ {r : Rules} where
     pub messages : underway s ∷ started s es ≡ whole ++ (done ++ underway (run s es)) ∷ []
     pub bytes : sent s es ≡ joined whole ++ done
 
-  -- Why a driver's call with room for n bytes ended: it wrote n, a byte a slot; or it wrote fewer, and one slot more was run, an idle one.
-  pub data Stops (s : State r) (n ran count : ℕ) : Type 0 where
-    full : ran ≡ n → count ≡ n → Stops s n ran count
-    idle : ran ≡ suc count → count < n → sentIn (shows (run s (replicate count slot)) slot) ≡ [] → Stops s n ran count
-
-  -- Such a call from s is a run of slots, and what it writes is what they send: so the promise holds with such calls among the events.
-  pub record FillsBy (n : ℕ) (s : State r) : Type 0 where
-    pub ran : ℕ
-    pub state-after : filled n s .0 ≡ run s (replicate ran slot)
-    pub bytes : filled n s .1 ≡ sent s (replicate ran slot)
-    pub stops : Stops s n ran (length (filled n s .1))
-
 module _ (r : Rules) where
   -- "From a start, over every order of received bytes, sending slots and new measurements, with no restart between:"
   pub record Promised (act-by reply-by record-by : ℕ) (m : r .Modes) : Type 0 where
@@ -100,11 +88,11 @@ module _ (r : Rules) where
         let s = start r m in
         taken s es ≡ acted s es ++ listed (waiting (run s es))
     -- "at or before the 156th slot after its carriage return," the event e that took it
-    pub acted-in-time : (before after : Events r) (e : Event (r .Measurement)) (c : r .Command) →
+    pub acted-in-time : (before after : Events r) (e : Event (r .Given)) (c : r .Command) →
         let s = run (start r m) before in
         shows s e ≡ took c → act-by ≤ slots after → ActedBy act-by (next s e) c after
     -- "and the last byte of its reply, if it has one, leaves at or before the 233rd."
-    pub replied-in-time : (before after : Events r) (e : Event (r .Measurement)) (c : r .Command) →
+    pub replied-in-time : (before after : Events r) (e : Event (r .Given)) (c : r .Command) →
         let s = run (start r m) before in
         let s′ = next s e in
         shows s e ≡ took c → reply-by ≤ slots after → (a : ActedBy act-by s′ c after)
@@ -124,16 +112,16 @@ module _ (r : Rules) where
     pub idle-only : (es : Events r) (a : Option (r .Command)) →
         let s = run (start r m) es in
         shows s slot ≡ idles a → IdleFor s (next s slot)
-    -- a line is taken at its carriage return if no command waits; it is dropped there if one waits, and in no other case
-    pub taken-if-free : (es : Events r) →
+    -- a line is taken where it ends, at its carriage return, if no command waits; it is dropped there if one waits, and in no other case
+    pub taken-if-free : (es : Events r) (b : ℕ) →
         let s = run (start r m) es in
-        waiting s ≡ none → shows s (received CR) ≡ took (r .read (line s))
-    pub dropped-if-not : (es : Events r) (c : r .Command) →
+        r .ends (line s) b ≡ true → waiting s ≡ none → shows s (received b) ≡ took (r .read (line s))
+    pub dropped-if-not : (es : Events r) (b : ℕ) (c : r .Command) →
         let s = run (start r m) es in
-        waiting s ≡ some c → shows s (received CR) ≡ dropped
-    pub dropped-only : (es : Events r) (e : Event (r .Measurement)) →
+        r .ends (line s) b ≡ true → waiting s ≡ some c → shows s (received b) ≡ dropped
+    pub dropped-only : (es : Events r) (e : Event (r .Given)) →
         let s = run (start r m) es in
-        shows s e ≡ dropped → (e ≡ received CR) × (c : r .Command) × (waiting s ≡ some c)
+        shows s e ≡ dropped → (b : ℕ) × (e ≡ received b) × (r .ends (line s) b ≡ true) × (c : r .Command) × (waiting s ≡ some c)
 
 -- The theorem: the bounds follow from the sizes, for every port, from a start in good modes. (W = L = R = 78: 156, 233 and 79.)
 abbrev pub Theorem : (r : Rules) → (r .Modes → Type 0) → ℕ → ℕ → ℕ → Type 0

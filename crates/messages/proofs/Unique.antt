@@ -13,11 +13,11 @@ use Rattle.fixed.specs.Form.{fixedForm}
 use Rattle.fixed.specs.declared.Fixed.{Fixed}
 use Rattle.units.specs.Measurement.{degrees}
 use Rattle.state.specs.declared.Message.{Message}
-use Rattle.state.specs.State.{messageOf}
+use Rattle.state.specs.State.{unsent}
 
 -- each public function answers the message of one body
 abbrev One : List ℕ → Bool → Type 0
-One body checksum = (r r′ : Message) → r ≡ messageOf (framed checksum body) → r′ ≡ messageOf (framed checksum body) → r ≡ r′
+One body checksum = (r r′ : Message) → r ≡ unsent (framed checksum body) → r′ ≡ unsent (framed checksum body) → r ≡ r′
 
 pub one-letter-message : (byte : ℕ) (checksum : Bool) → One (byte ∷ []) checksum
 one-letter-message byte checksum r r′ = one-answer

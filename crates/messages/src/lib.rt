@@ -1,23 +1,28 @@
 // Each reply and record as a message: its bytes at the start of a fresh buffer of zeros, ended with or
 // without a checksum.
+use fixed::FIXED_LENGTH;
 use fixed::Fixed;
+use record::PACKED_LENGTH;
 use record::Record;
+use record::TEXT_LENGTH;
+use state::MESSAGE_LENGTH;
 use state::Message;
 ghost use mathlib.Core.Path.{_≡_};
+ghost use mathlib.Core.Bool.{true};
 ghost use mathlib.Core.List.{[], _∷_};
 ghost use Prim.Native.Nat.{_+_, _≤_};
 ghost use lib.ListN.{length};
 ghost use Rattle.digits.specs.Digits.{decimal};
-ghost use Rattle.frame.specs.Frame.{framed};
+ghost use Rattle.frame.specs.Frame.{endingWidth, framed};
 ghost use Rattle.record.specs.Forms.{textForm, packedForm};
 ghost use Rattle.fixed.specs.Form.{fixedForm};
 ghost use Rattle.units.specs.Measurement.{shown, degrees};
-ghost use Rattle.state.specs.State.{messageOf};
+ghost use Rattle.state.specs.State.{messageLength, unsent};
 ghost use Rattle.messages.specs.Built.{closedOf};
 
 // The first n bytes of a buffer, ended, about to be sent.
-fn closed(bytes: [u8; 128], n: usize, checksum: bool) -> Message
-    requires { ⌜ n + 4 ≤ 128 ⌝ }
+fn closed(bytes: [u8; MESSAGE_LENGTH], n: usize, checksum: bool) -> Message
+    requires { ⌜ n + endingWidth true ≤ messageLength ⌝ }
     ensures { λ r. ⌜ r ≡ closedOf bytes n checksum ⌝ }
 {
     let mut buffer = bytes;
@@ -31,19 +36,19 @@ fn closed(bytes: [u8; 128], n: usize, checksum: bool) -> Message
 
 // One byte.
 pub fn letter_message(byte: u8, checksum: bool) -> Message
-    ensures { λ r. ⌜ r ≡ messageOf (framed checksum (byte ∷ [])) ⌝ }
+    ensures { λ r. ⌜ r ≡ unsent (framed checksum (byte ∷ [])) ⌝ }
 {
-    let mut bytes = [0u8; 128];
+    let mut bytes = [0u8; MESSAGE_LENGTH];
     lent::put_byte(&mut bytes, 0, byte);
     closed(bytes, 1, checksum)
 }
 
 // Two bytes and a text.
 fn named(first: u8, second: u8, text: &[u8], checksum: bool) -> Message
-    requires { ⌜ length (now text) ≤ 64 ⌝ }
-    ensures { λ r. ⌜ r ≡ messageOf (framed checksum (first ∷ second ∷ now (text .entry))) ⌝ }
+    requires { ⌜ 2 + length (now text) + endingWidth true ≤ messageLength ⌝ }
+    ensures { λ r. ⌜ r ≡ unsent (framed checksum (first ∷ second ∷ now (text .entry))) ⌝ }
 {
-    let mut bytes = [0u8; 128];
+    let mut bytes = [0u8; MESSAGE_LENGTH];
     lent::put_pair(&mut bytes, 0, first, second);
     lent::put_text(&mut bytes, 2, text);
     closed(bytes, 2 + text.len(), checksum)
@@ -51,28 +56,28 @@ fn named(first: u8, second: u8, text: &[u8], checksum: bool) -> Message
 
 // B, a space and the version.
 pub fn version_message(version: [u8; 4], checksum: bool) -> Message
-    ensures { λ r. ⌜ r ≡ messageOf (framed checksum (66 ∷ 32 ∷ version)) ⌝ }
+    ensures { λ r. ⌜ r ≡ unsent (framed checksum (66 ∷ 32 ∷ version)) ⌝ }
 {
     named(b'B', b' ', &version, checksum)
 }
 
 // K3 and the maker's name.
 pub fn maker_message(maker: [u8; 15], checksum: bool) -> Message
-    ensures { λ r. ⌜ r ≡ messageOf (framed checksum (75 ∷ 51 ∷ maker)) ⌝ }
+    ensures { λ r. ⌜ r ≡ unsent (framed checksum (75 ∷ 51 ∷ maker)) ⌝ }
 {
     named(b'K', b'3', &maker, checksum)
 }
 
 // K4 and the name of the type.
 pub fn type_message(name: [u8; 30], checksum: bool) -> Message
-    ensures { λ r. ⌜ r ≡ messageOf (framed checksum (75 ∷ 52 ∷ name)) ⌝ }
+    ensures { λ r. ⌜ r ≡ unsent (framed checksum (75 ∷ 52 ∷ name)) ⌝ }
 {
     named(b'K', b'4', &name, checksum)
 }
 
 // Kb, the digit of a rate number and !.
 pub fn rate_message(digit: u8, checksum: bool) -> Message
-    ensures { λ r. ⌜ r ≡ messageOf (framed checksum (75 ∷ 98 ∷ digit ∷ 33 ∷ [])) ⌝ }
+    ensures { λ r. ⌜ r ≡ unsent (framed checksum (75 ∷ 98 ∷ digit ∷ 33 ∷ [])) ⌝ }
 {
     let text = [digit, b'!'];
     named(b'K', b'b', &text, checksum)
@@ -80,11 +85,11 @@ pub fn rate_message(digit: u8, checksum: bool) -> Message
 
 // The fixed data.
 pub fn fixed_message(fixed: Fixed, checksum: bool) -> Message
-    ensures { λ r. ⌜ r ≡ messageOf (framed checksum (fixedForm .print fixed)) ⌝ }
+    ensures { λ r. ⌜ r ≡ unsent (framed checksum (fixedForm .print fixed)) ⌝ }
 {
-    let mut bytes = [0u8; 128];
+    let mut bytes = [0u8; MESSAGE_LENGTH];
     nwriter::put_fixed(&mut bytes, fixed);
-    closed(bytes, 65, checksum)
+    closed(bytes, FIXED_LENGTH, checksum)
 }
 
 // The degrees that are shown: below 0 none, above 99 no more than 99.
@@ -103,19 +108,19 @@ fn shown_of(t: i32) -> u32
 
 // P and two digits.
 pub fn degrees_message(t: i32, checksum: bool) -> Message
-    ensures { λ r. ⌜ r ≡ messageOf (framed checksum (80 ∷ degrees t)) ⌝ }
+    ensures { λ r. ⌜ r ≡ unsent (framed checksum (80 ∷ degrees t)) ⌝ }
 {
-    let mut bytes = [0u8; 128];
+    let mut bytes = [0u8; MESSAGE_LENGTH];
     codec::put_tagged(&mut bytes, 0, b'P', 2, shown_of(t));
     closed(bytes, 3, checksum)
 }
 
 // A letter, 0.0 and the three digits of a blur circle.
 pub fn blur_message(letter: u8, circle: u16, checksum: bool) -> Message
-    ensures { λ r. ⌜ r ≡ messageOf (framed checksum (letter ∷ 48 ∷ 46 ∷ 48 ∷ decimal 3 circle)) ⌝ }
+    ensures { λ r. ⌜ r ≡ unsent (framed checksum (letter ∷ 48 ∷ 46 ∷ 48 ∷ decimal 3 circle)) ⌝ }
 {
     let head = [letter, b'0', b'.', b'0'];
-    let mut bytes = [0u8; 128];
+    let mut bytes = [0u8; MESSAGE_LENGTH];
     lent::put_text(&mut bytes, 0, &head);
     digits::put_decimal(&mut bytes, 4, 3, circle as u32);
     closed(bytes, 7, checksum)
@@ -123,18 +128,18 @@ pub fn blur_message(letter: u8, circle: u16, checksum: bool) -> Message
 
 // The text record.
 pub fn text_message(r: Record, checksum: bool) -> Message
-    ensures { λ m. ⌜ m ≡ messageOf (framed checksum (textForm .print r)) ⌝ }
+    ensures { λ m. ⌜ m ≡ unsent (framed checksum (textForm .print r)) ⌝ }
 {
-    let mut bytes = [0u8; 128];
+    let mut bytes = [0u8; MESSAGE_LENGTH];
     text_writer::put_text_record(&mut bytes, r);
-    closed(bytes, 74, checksum)
+    closed(bytes, TEXT_LENGTH, checksum)
 }
 
 // The packed record.
 pub fn packed_message(r: Record, checksum: bool) -> Message
-    ensures { λ m. ⌜ m ≡ messageOf (framed checksum (packedForm .print r)) ⌝ }
+    ensures { λ m. ⌜ m ≡ unsent (framed checksum (packedForm .print r)) ⌝ }
 {
-    let mut bytes = [0u8; 128];
+    let mut bytes = [0u8; MESSAGE_LENGTH];
     packed_writer::put_packed_record(&mut bytes, r);
-    closed(bytes, 39, checksum)
+    closed(bytes, PACKED_LENGTH, checksum)
 }

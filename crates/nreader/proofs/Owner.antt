@@ -7,7 +7,7 @@ use native.Mathlib.Omega.{arith}
 use denote.Ref.{RefT}
 use lib.Dec.{eqb}
 use lib.ListN.{length, getD}
-use Rattle.laws.proofs.Tests.{told}
+use Rattle.laws.proofs.Tests.{told, never}
 use Rattle.refusal.specs.Answer.{Answer, accepted, refused}
 use Rattle.refusal.specs.declared.Refusal.{Refusal}
 use Rattle.refusal.specs.declared.Verdict.the-variants.{Done, Refused}
@@ -15,12 +15,12 @@ use Rattle.frame.specs.Frame.{endingWidth}
 use Rattle.frame.specs.Message.{readOf}
 use Rattle.frame.proofs.Exactly.{reads-only, framed-long}
 use Rattle.fixed.specs.Fixed.{fixedRead}
-use Rattle.fixed.specs.Form.{fixedForm}
+use Rattle.fixed.specs.Form.{fixedForm, fixedLength}
 use Rattle.fixed.specs.declared.Fixed.{Fixed}
 use Rattle.fixed.specs.declared.FixedRead.{FixedRead}
 use Rattle.fixed.proofs.Exact.{fixed-form-exact, fixed-form-width, fixed-lowest}
 use Rattle.fixed.proofs.Given.{items-long}
-use Rattle.nreader.specs.Reader.{unspaced, trimmed, ownerAt, ownerLength, PartIs}
+use Rattle.nreader.specs.Reader.{unspaced, trimmed, OwnersPart}
 
 -- a text without its trailing spaces is no longer than the text
 pub unspaced-low : (s : List ℕ) (n : ℕ) → unspaced s n ≤ n
@@ -33,24 +33,24 @@ unspaced-low s (suc n) =
 -- what the reader's verdict says of its answer
 pub done-is : (x : FixedRead) (a : Answer Fixed) → x ≡ fixedRead a → x .verdict ≡ Done → a ≡ accepted (x .contents)
 done-is x (accepted f) e h = ap (λ (y : FixedRead). accepted (y .contents)) (sym e)
-done-is x (refused r) e h = absurd (let z : Refused r ≡ Done = sym (ap (λ (y : FixedRead). y .verdict) e) ∙ h in let y : _≡_ {A = ℕ} 0 1 = cc in omega arith)
+done-is x (refused r) e h = let z : Refused r ≡ Done = sym (ap (λ (y : FixedRead). y .verdict) e) ∙ h in never (cc)
 
 pub refused-is : (x : FixedRead) (a : Answer Fixed) (r : Refusal) → x ≡ fixedRead a → x .verdict ≡ Refused r → a ≡ refused r
-refused-is x (accepted f) r e h = absurd (let z : Done ≡ Refused r = sym (ap (λ (y : FixedRead). y .verdict) e) ∙ h in let y : _≡_ {A = ℕ} 0 1 = cc in omega arith)
+refused-is x (accepted f) r e h = let z : Done ≡ Refused r = sym (ap (λ (y : FixedRead). y .verdict) e) ∙ h in never (cc)
 refused-is x (refused q) r e h =
     let z : Refused q ≡ Refused r = sym (ap (λ (y : FixedRead). y .verdict) e) ∙ h in
     let y : q ≡ r = cc in
     ap refused y
 
 -- the part by the answer that was given
-pub part-by : (m : RefT (List ℕ)) {a b : Answer Fixed} {p : RefT (List ℕ)} → a ≡ b → PartIs m (ownerAt b) (ownerLength b) p → PartIs m (ownerAt a) (ownerLength a) p
-part-by m {p = p} e = subst (λ (x : Answer Fixed). PartIs m (ownerAt x) (ownerLength x) p) (sym e)
+pub part-by : (m : RefT (List ℕ)) {a b : Answer Fixed} {p : RefT (List ℕ)} → a ≡ b → OwnersPart m b p → OwnersPart m a p
+part-by m {p = p} e = subst (λ (x : Answer Fixed). OwnersPart m x p) (sym e)
 
 module _ (checksum : Bool) (m : List ℕ) (f : Fixed) (e : readOf fixedForm checksum m ≡ accepted f) where
-  pub accepted-long : length m ≡ 65 + endingWidth checksum
+  pub accepted-long : length m ≡ fixedLength + endingWidth checksum
   accepted-long =
       let p = reads-only fixedForm fixed-form-exact checksum m f e in
-      ap length (p .1) ∙ framed-long checksum 65 (fixedForm .print f) (fixed-form-exact .long f (p .0) ∙ fixed-form-width)
+      ap length (p .1) ∙ framed-long checksum fixedLength (fixedForm .print f) (fixed-form-exact .long f (p .0) ∙ fixed-form-width)
 
   pub owner-fits : 12 + trimmed (f .owner) ≤ length m
   owner-fits =

@@ -1,6 +1,6 @@
 -- The promises of the owner's part, by where the form writes the owner. Assumes nothing.
 use Prim.Native.Nat.{ℕ, zero, suc, _+_, _-_, _≤_, _<_}
-use mathlib.Core.Bool.{Bool, true, false}
+use mathlib.Core.Bool.{true, false}
 use mathlib.Core.List.{List, _∷_, _++_, append-assoc}
 use mathlib.Core.Path.{_≡_, sym, ap, _∙_}
 use native.Mathlib.Omega.{arith}
@@ -12,7 +12,7 @@ use Rattle.laws.proofs.Tests.{told}
 use Rattle.frame.specs.Frame.{ending}
 use Rattle.frame.proofs.Exactly.{reads-only}
 use Rattle.fixed.specs.Fixed.{lensIn}
-use Rattle.fixed.specs.Form.{serial, owner, lens, version, fixedForm}
+use Rattle.fixed.specs.Form.{serial, owner, lensItems, version, fixedForm}
 use Rattle.fixed.specs.declared.Fixed.{Fixed}
 use Rattle.fixed.proofs.Exact.{fixed-form-exact, fixed-lowest}
 use Rattle.fixed.proofs.Given.{items-long}
@@ -24,7 +24,7 @@ use Rattle.nreader.proofs.Owner.{unspaced-low}
 owner-at : (f : Fixed) (r : List ℕ) → length (f .serial) ≡ 9 → length (f .owner) ≡ 31 → take 31 (drop 12 (fixedForm .print f ++ r)) ≡ f .owner
 unfolding fixedForm serial owner
 owner-at f r s o =
-    let y = lens .print (lensIn f) ++ version .print (f .version) in
+    let y = lensItems .print (lensIn f) ++ version .print (f .version) in
     let z : List ℕ = (79 ∷ (f .owner ++ y)) ++ r in
     ap (λ (x : List ℕ). take 31 (drop 10 x)) (append-assoc (f .serial) (79 ∷ (f .owner ++ y)) r)
     ∙ ap (λ (n : ℕ). take 31 (drop (n + 1) (f .serial ++ z))) (sym s)

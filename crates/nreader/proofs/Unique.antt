@@ -9,7 +9,7 @@ use Rattle.frame.specs.Message.{readOf}
 use Rattle.fixed.specs.Fixed.{fixedRead}
 use Rattle.fixed.specs.Form.{fixedForm}
 use Rattle.fixed.specs.declared.FixedRead.{FixedRead}
-use Rattle.nreader.specs.Reader.{trimmed, ownerAt, ownerLength, PartIs}
+use Rattle.nreader.specs.Reader.{trimmed, PartIs, OwnersPart}
 
 pub one-read-fixed : (m : List ℕ) (checksum : Bool) {r r′ : FixedRead} → r ≡ fixedRead (readOf fixedForm checksum m) → r′ ≡ fixedRead (readOf fixedForm checksum m) → r ≡ r′
 one-read-fixed m checksum = one-answer
@@ -22,7 +22,6 @@ pub one-part : {m : RefT (List ℕ)} {a n : ℕ} {r r′ : RefT (List ℕ)} → 
 one-part p q = (one-answer (p .place) (q .place), one-answer (p .bytes) (q .bytes))
 
 pub one-owner-part : (m : RefT (List ℕ)) (checksum : Bool) {r r′ : RefT (List ℕ)} →
-    PartIs m (ownerAt (readOf fixedForm checksum (m .now))) (ownerLength (readOf fixedForm checksum (m .now))) r →
-    PartIs m (ownerAt (readOf fixedForm checksum (m .now))) (ownerLength (readOf fixedForm checksum (m .now))) r′ →
+    OwnersPart m (readOf fixedForm checksum (m .now)) r → OwnersPart m (readOf fixedForm checksum (m .now)) r′ →
     (r .ptr ≡ r′ .ptr) × (r .now ≡ r′ .now)
 one-owner-part m checksum = one-part

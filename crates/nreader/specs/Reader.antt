@@ -1,13 +1,13 @@
 -- What the code finds in parts of the N message, and the owner's name as a part of it.
 use Prim.Native.Nat.{ℕ, zero, suc, _+_}
 use mathlib.Core.Bool.{Bool, _&&_, cond}
-use mathlib.Core.List.{List, [], _∷_}
+use mathlib.Core.List.{List}
 use mathlib.Core.Path.{_≡_}
 use lib.Dec.{eqb}
 use lib.ListN.{length, getD, take, drop}
 use denote.Ref.{RefT}
 use Rattle.refusal.specs.Answer.{Answer, accepted, refused}
-use Rattle.codec.specs.Codec.{Got, got, bad, begins, printable}
+use Rattle.codec.specs.Codec.{Got, got, wrong}
 use Rattle.fixed.specs.Fixed.{fixedOf}
 use Rattle.fixed.specs.declared.Fixed.{Fixed}
 use Rattle.fixed.specs.declared.Lens.{Lens}
@@ -22,22 +22,17 @@ readLetter t ok tag b = cond (eqb tag t && ok b) (letter.Is b) letter.Wrong
 
 unfoldable pub letterSays : ℕ → Letter → Got ℕ
 letterSays i (letter.Is b) = got b
-letterSays i letter.Wrong = bad i
+letterSays i letter.Wrong = wrong i
 
 -- what no text holds
 unfoldable pub lensSays : Items → Got Lens
 lensSays (items.Found l) = got l
-lensSays (items.Wrong i) = bad i
-
--- a text behind tags
-unfoldable pub textBehind : List ℕ → List ℕ → Bool
-textBehind [] s = printable s
-textBehind (t ∷ ts) s = begins t s && textBehind ts (drop 1 s)
+lensSays (items.Wrong i) = wrong i
 
 -- the contents s: their texts stand there, and the rest is what was found
 unfoldable pub itemsSays : List ℕ → Items → Got Fixed
 itemsSays s (items.Found l) = got (fixedOf (take 9 (drop 2 s)) (take 31 (drop 12 s)) l (take 4 (drop 61 s)))
-itemsSays s (items.Wrong i) = bad i
+itemsSays s (items.Wrong i) = wrong i
 
 -- ---- the owner's part
 
@@ -63,3 +58,7 @@ ownerLength (refused r) = 0
 pub record PartIs (m : RefT (List ℕ)) (a n : ℕ) (r : RefT (List ℕ)) : Type 0 where
   pub place : r .ptr ≡ (m .ptr .0, a + m .ptr .1)
   pub bytes : r .now ≡ take n (drop a (m .now))
+
+-- r is the owner's part of m, by the reader's answer
+abbrev pub OwnersPart : RefT (List ℕ) → Answer Fixed → RefT (List ℕ) → Type 0
+OwnersPart m a r = PartIs m (ownerAt a) (ownerLength a) r

@@ -1,5 +1,6 @@
 // The reader of the N message, and the owner's name as a part of it.
 use digits::Field;
+use fixed::FIXED_LENGTH;
 use fixed::FixedRead;
 use fixed::Lens;
 use refusal::Refusal;
@@ -8,8 +9,8 @@ ghost use mathlib.Core.Path.{_≡_};
 ghost use lib.ListN.{length};
 ghost use Rattle.frame.specs.Message.{found, readOf};
 ghost use Rattle.fixed.specs.Fixed.{kindOk, letterOk, fixedRead};
-ghost use Rattle.fixed.specs.Form.{lens, fixedForm};
-ghost use Rattle.nreader.specs.Reader.{readLetter, lensSays, textBehind, itemsSays, trimmed, ownerAt, ownerLength, PartIs};
+ghost use Rattle.fixed.specs.Form.{lensItems, fixedLength, fixedForm};
+ghost use Rattle.nreader.specs.Reader.{readLetter, lensSays, itemsSays, trimmed, OwnersPart};
 
 // What a tag and a letter hold: the letter, or what no writer writes.
 enum Letter {
@@ -52,7 +53,7 @@ fn read_start(tag: u8, b: u8) -> Letter
 // Reads items 3 to 7. The first refusal is handed up.
 fn read_lens(s: &[u8]) -> Items
     requires { ⌜ length (now s) ≡ 15 ⌝ }
-    ensures { λ r. ⌜ lensSays r ≡ lens .parse (now (s .entry)) ⌝ }
+    ensures { λ r. ⌜ lensSays r ≡ lensItems .parse (now (s .entry)) ⌝ }
 {
     let Letter::Is(kind) = read_kind(s[0], s[1]) else {
         return Items::Wrong(3);
@@ -78,39 +79,22 @@ fn read_lens(s: &[u8]) -> Items
     })
 }
 
-// Whether s is a text behind its tags.
-fn is_behind(s: &[u8], tags: &[u8]) -> bool
-    ensures { λ r. ⌜ r ≡ textBehind (now (tags .entry)) (now (s .entry)) ⌝ }
-{
-    let mut i = 0;
-    while i < tags.len() {
-        if s.len() <= i {
-            return false;
-        }
-        if s[i] != tags[i] {
-            return false;
-        }
-        i += 1;
-    }
-    codec::is_text(&s[i..])
-}
-
 // Reads the contents of an N message. The first wrong item is handed up.
 fn read_items(s: &[u8]) -> Items
-    requires { ⌜ length (now s) ≡ 65 ⌝ }
+    requires { ⌜ length (now s) ≡ fixedLength ⌝ }
     ensures { λ r. ⌜ itemsSays (now (s .entry)) r ≡ fixedForm .parse (now (s .entry)) ⌝ }
 {
-    if !is_behind(&s[0..11], b"NS") {
+    if !codec::is_behind(&s[0..11], b"NS") {
         return Items::Wrong(1);
     }
-    if !is_behind(&s[11..43], b"O") {
+    if !codec::is_behind(&s[11..43], b"O") {
         return Items::Wrong(2);
     }
     let items = read_lens(&s[43..58]);
     let Items::Found(_) = items else {
         return items;
     };
-    if !is_behind(&s[58..65], b"  B") {
+    if !codec::is_behind(&s[58..FIXED_LENGTH], b"  B") {
         return Items::Wrong(8);
     }
     items
@@ -118,7 +102,7 @@ fn read_items(s: &[u8]) -> Items
 
 // What the contents of an N message hold: 6 with the first wrong item.
 fn read_contents(s: &[u8]) -> FixedRead
-    requires { ⌜ length (now s) ≡ 65 ⌝ }
+    requires { ⌜ length (now s) ≡ fixedLength ⌝ }
     ensures { λ r. ⌜ r ≡ fixedRead (found (fixedForm .parse (now (s .entry)))) ⌝ }
 {
     match read_items(s) {
@@ -127,7 +111,7 @@ fn read_contents(s: &[u8]) -> FixedRead
             &s[2..11],
             &s[12..43],
             lens,
-            &s[61..65],
+            &s[61..FIXED_LENGTH],
         )),
     }
 }
@@ -136,9 +120,9 @@ fn read_contents(s: &[u8]) -> FixedRead
 pub fn read_fixed(m: &[u8], checksum: bool) -> FixedRead
     ensures { λ r. ⌜ r ≡ fixedRead (readOf fixedForm checksum (now (m .entry))) ⌝ }
 {
-    match frame::open(m, 65, checksum) {
+    match frame::open(m, FIXED_LENGTH, checksum) {
         Verdict::Refused(r) => fixed::refused_fixed(r),
-        Verdict::Done => read_contents(&m[0..65]),
+        Verdict::Done => read_contents(&m[0..FIXED_LENGTH]),
     }
 }
 
@@ -148,7 +132,7 @@ pub fn trimmed_length(s: &[u8]) -> usize
 {
     let mut n = s.len();
     while 0 < n {
-        if s[n - 1] != 32 {
+        if s[n - 1] != b' ' {
             return n;
         }
         n -= 1;
@@ -158,7 +142,7 @@ pub fn trimmed_length(s: &[u8]) -> usize
 
 // The owner's name without its trailing spaces, as that part of the message; of a refused message empty, at its start.
 pub fn owner_part<'a>(m: &'a [u8], checksum: bool) -> &'a [u8]
-    ensures { λ r. ⌜ PartIs (m .entry) (ownerAt (readOf fixedForm checksum (now (m .entry)))) (ownerLength (readOf fixedForm checksum (now (m .entry)))) r ⌝ }
+    ensures { λ r. ⌜ OwnersPart (m .entry) (readOf fixedForm checksum (now (m .entry))) r ⌝ }
 {
     let read = read_fixed(m, checksum);
     let verdict = read.verdict;

@@ -1,20 +1,20 @@
 // The writer of the N message.
+use fixed::FIXED_LENGTH;
 use fixed::Fixed;
 use frame::Wrote;
 use refusal::Refusal;
 ghost use mathlib.Core.Path.{_≡_};
 ghost use Prim.Native.Nat.{_≤_};
 ghost use lib.ListN.{length};
-ghost use Rattle.laws.specs.Gives.{Gives};
 ghost use Rattle.laws.specs.Over.{over};
 ghost use Rattle.refusal.specs.declared.Refusal.the-variants.{Setting};
-ghost use Rattle.frame.specs.Message.{writeOf, wroteOf, leftBy};
-ghost use Rattle.fixed.specs.Form.{fixedForm};
+ghost use Rattle.frame.specs.Message.{WritesMessage};
+ghost use Rattle.fixed.specs.Form.{fixedForm, fixedLength};
 ghost use Rattle.nwriter.specs.Parts.{namesText, lensText, versionText};
 
 // Writes N, S and the serial, O and the owner: the first 43 bytes.
 fn put_names(out: &mut [u8], f: Fixed)
-    requires { ⌜ 65 ≤ length (now out) ⌝ }
+    requires { ⌜ fixedLength ≤ length (now out) ⌝ }
     ensures { λ _. ⌜ now (out .exit) ≡ over (now (out .entry)) 0 (namesText f) ⌝ }
 {
     let serial = f.serial;
@@ -27,7 +27,7 @@ fn put_names(out: &mut [u8], f: Fixed)
 
 // Writes items 3 to 7: 15 bytes.
 fn put_lens(out: &mut [u8], f: Fixed)
-    requires { ⌜ 65 ≤ length (now out) ⌝ }
+    requires { ⌜ fixedLength ≤ length (now out) ⌝ }
     ensures { λ _. ⌜ now (out .exit) ≡ over (now (out .entry)) 43 (lensText f) ⌝ }
 {
     lent::put_pair(out, 43, b'L', f.kind);
@@ -39,7 +39,7 @@ fn put_lens(out: &mut [u8], f: Fixed)
 
 // Writes two spaces, B and the version: the last 7 bytes.
 fn put_version(out: &mut [u8], f: Fixed)
-    requires { ⌜ 65 ≤ length (now out) ⌝ }
+    requires { ⌜ fixedLength ≤ length (now out) ⌝ }
     ensures { λ _. ⌜ now (out .exit) ≡ over (now (out .entry)) 58 (versionText f) ⌝ }
 {
     let version = f.version;
@@ -48,11 +48,11 @@ fn put_version(out: &mut [u8], f: Fixed)
     lent::put_text(out, 61, &version);
 }
 
-// Writes the contents of an N message, 65 bytes, at the start.
+// Writes the contents of an N message; nothing where they do not fit.
 pub fn put_fixed(out: &mut [u8], f: Fixed)
     ensures { λ _. ⌜ now (out .exit) ≡ over (now (out .entry)) 0 (fixedForm .print f) ⌝ }
 {
-    if out.len() < 65 {
+    if out.len() < FIXED_LENGTH {
         return;
     }
     put_names(out, f);
@@ -62,17 +62,17 @@ pub fn put_fixed(out: &mut [u8], f: Fixed)
 
 // Writes an N message: 8 for the lowest item out of range, then 2 with the needed length.
 pub fn write_fixed(f: Fixed, checksum: bool, out: &mut [u8]) -> Wrote
-    ensures { λ w. ⌜ Gives (wroteOf (writeOf fixedForm Setting checksum f (now (out .entry)))) (leftBy fixedForm checksum f (now (out .entry))) w (now (out .exit)) ⌝ }
+    ensures { λ w. ⌜ WritesMessage fixedForm Setting checksum f (now (out .entry)) w (now (out .exit)) ⌝ }
 {
     let lowest = fixed::lowest_item(f);
     if lowest != 0 {
         return Wrote::Refused(Refusal::Setting(lowest));
     }
-    let n = 65 + frame::ending_width(checksum);
-    if out.len() < n {
-        return Wrote::Refused(Refusal::Room(n));
-    }
+    let answer = frame::room_for(out.len(), FIXED_LENGTH, checksum);
+    let Wrote::Count(n) = answer else {
+        return answer;
+    };
     put_fixed(out, f);
-    frame::put_ending(out, 65, checksum);
-    Wrote::Done(n)
+    frame::put_ending(out, FIXED_LENGTH, checksum);
+    Wrote::Count(n)
 }

@@ -2,23 +2,23 @@
 // 9..23, back 23..29, serial 29..39.
 use frame::Wrote;
 use record::Figures;
+use record::PACKED_LENGTH;
 use record::Record;
 use refusal::Refusal;
 ghost use mathlib.Core.Path.{_≡_};
 ghost use Prim.Native.Nat.{_≤_};
 ghost use lib.ListN.{length};
-ghost use Rattle.laws.specs.Gives.{Gives};
 ghost use Rattle.laws.specs.Over.{over};
-ghost use Rattle.refusal.specs.declared.Refusal.the-variants as refusals;
-ghost use Rattle.frame.specs.Message.{writeOf, wroteOf, leftBy};
-ghost use Rattle.record.specs.Forms.{frontPacked, middlePacked, backPacked, packedForm, frontOf, middleOf, backOf};
+ghost use Rattle.refusal.specs.declared.Refusal.the-variants.{Field};
+ghost use Rattle.frame.specs.Message.{WritesMessage};
+ghost use Rattle.record.specs.Forms.{frontPacked, middlePacked, backPacked, packedForm, packedLength, frontOf, middleOf, backOf};
 
 // Writes d and four groups, two groups, the shared pair.
 fn put_front(out: &mut [u8], f: Figures)
-    requires { ⌜ 39 ≤ length (now out) ⌝ }
+    requires { ⌜ packedLength ≤ length (now out) ⌝ }
     ensures { λ _. ⌜ now (out .exit) ≡ over (now (out .entry)) 0 (frontPacked .print (frontOf f)) ⌝ }
 {
-    lent::put_byte(out, 0, 100);
+    lent::put_byte(out, 0, b'd');
     digits::put_groups(out, 1, 4, f.focus);
     digits::put_groups(out, 5, 2, f.aperture);
     stop::put_stop_pair(out, 7, f.stop, f.tenth);
@@ -26,7 +26,7 @@ fn put_front(out: &mut [u8], f: Figures)
 
 // Writes the focal length and three distances.
 fn put_middle(out: &mut [u8], f: Figures)
-    requires { ⌜ 39 ≤ length (now out) ⌝ }
+    requires { ⌜ packedLength ≤ length (now out) ⌝ }
     ensures { λ _. ⌜ now (out .exit) ≡ over (now (out .entry)) 9 (middlePacked .print (middleOf f)) ⌝ }
 {
     digits::put_groups(out, 9, 2, f.focal);
@@ -37,7 +37,7 @@ fn put_middle(out: &mut [u8], f: Figures)
 
 // Writes the view, the pupil and the zoom.
 fn put_back(out: &mut [u8], f: Figures)
-    requires { ⌜ 39 ≤ length (now out) ⌝ }
+    requires { ⌜ packedLength ≤ length (now out) ⌝ }
     ensures { λ _. ⌜ now (out .exit) ≡ over (now (out .entry)) 23 (backPacked .print (backOf f)) ⌝ }
 {
     let e = f.pupil;
@@ -46,11 +46,11 @@ fn put_back(out: &mut [u8], f: Figures)
     digits::put_groups(out, 27, 2, f.zoom);
 }
 
-// Writes the contents alone, where the 39 bytes fit.
+// Writes a record's contents; nothing where they do not fit.
 pub fn put_packed_record(out: &mut [u8], r: Record)
     ensures { λ _. ⌜ now (out .exit) ≡ over (now (out .entry)) 0 (packedForm .print r) ⌝ }
 {
-    if out.len() < 39 {
+    if out.len() < PACKED_LENGTH {
         return;
     }
     let figures = r.figures;
@@ -63,17 +63,17 @@ pub fn put_packed_record(out: &mut [u8], r: Record)
 
 // Writes a whole message: the lowest field out of range is refused first, then too little room.
 pub fn write_packed(r: Record, checksum: bool, out: &mut [u8]) -> Wrote
-    ensures { λ w. ⌜ Gives (wroteOf (writeOf packedForm refusals.Field checksum r (now (out .entry)))) (leftBy packedForm checksum r (now (out .entry))) w (now (out .exit)) ⌝ }
+    ensures { λ w. ⌜ WritesMessage packedForm Field checksum r (now (out .entry)) w (now (out .exit)) ⌝ }
 {
     let lowest = record::lowest_field(r);
     if lowest != 0 {
         return Wrote::Refused(Refusal::Field(lowest));
     }
-    let n = 39 + frame::ending_width(checksum);
-    if out.len() < n {
-        return Wrote::Refused(Refusal::Room(n));
-    }
+    let answer = frame::room_for(out.len(), PACKED_LENGTH, checksum);
+    let Wrote::Count(n) = answer else {
+        return answer;
+    };
     put_packed_record(out, r);
-    frame::put_ending(out, 39, checksum);
-    Wrote::Done(n)
+    frame::put_ending(out, PACKED_LENGTH, checksum);
+    Wrote::Count(n)
 }

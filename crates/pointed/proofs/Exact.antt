@@ -13,7 +13,8 @@ use Rattle.digits.specs.declared.Field.{Field}
 use Rattle.digits.specs.declared.Field.the-variants.{Value, Wrong}
 use Rattle.digits.proofs.Laws.{length-digits}
 use Rattle.codec.specs.Codec.{passed, failing, both, chained, fieldSays, number, tagged, _⊗_}
-use Rattle.codec.proofs.Exact.{Exact, Codes, holds, fine, first-zero, zero-first, passed-is, number-exact, tagged-exact, ⊗-exact, through-exact, tagged-number}
+use Rattle.codec.proofs.Exact.{Exact, Codes, holds, fine, first-zero, zero-first, passed-is, number-exact, tagged-exact, ⊗-exact, through-exact}
+use Rattle.codec.proofs.Fields.{tagged-number}
 use Rattle.pointed.specs.Pointed.{point, pointedText, pointed, joined, readPointed}
 
 pub pointed-long : (w n : ℕ) → length (pointedText w n) ≡ w + 2
@@ -76,4 +77,4 @@ pub pointed-read : (i w top : ℕ) (s : List ℕ) → length s ≡ w + 2 → fie
 unfolding pointed readPointed
 pointed-read i w top s l =
     let e : length s - 2 ≡ w = omega arith in
-    rw (le-ltb (length s) 2 (omega arith), e, says-joined, tagged-number point i 1 9 (drop w s))
+    rw (le-ltb (length s) 2 (omega arith), e, says-joined, tagged-number point i 10 48 1 9 (drop w s))

@@ -36,4 +36,4 @@ unfoldable pub readPointed : ℕ → List ℕ → Field
 readPointed top s =
     cond (ltb (length s) 2)
     Wrong
-    (joined top (readDecimal (top / 10) (take (length s - 2) s)) (readTagged point 9 (drop (length s - 2) s)))
+    (joined top (readDecimal (top / 10) (take (length s - 2) s)) (readTagged point (readDecimal 9) (drop (length s - 2) s)))

@@ -15,7 +15,7 @@ pub fn put_pointed(out: &mut [u8], at: usize, width: usize, n: u32)
         return;
     }
     digits::put_decimal(out, at, width, n / 10);
-    codec::put_tagged(out, at + width, 46, 1, n % 10);
+    codec::put_tagged(out, at + width, b'.', 1, n % 10);
 }
 
 // Reads the whole of s as a number in tenths that is at most top.
@@ -30,7 +30,7 @@ pub fn read_pointed(s: &[u8], top: u16) -> Field
     let Field::Value(whole) = digits::read_decimal(&s[..whole_width], most / 10) else {
         return Field::Wrong;
     };
-    let Field::Value(tenth) = codec::read_tagged(&s[whole_width..], 46, 9) else {
+    let Field::Value(tenth) = codec::read_tagged(&s[whole_width..], b'.', 9) else {
         return Field::Wrong;
     };
     let n = whole * 10 + tenth;

@@ -1,10 +1,9 @@
 -- A refusal changes no state, and a valid port stays valid: entry by entry. Assumes nothing.
 use Prim.Native.Nat.{ℕ}
 use mathlib.Core.Bool.{Bool, true, false, _&&_, _||_, cond}
-use mathlib.Core.Path.{_≡_, refl, sym, ap, subst, _∙_}
-use native.Mathlib.Omega.{arith}
+use mathlib.Core.Path.{_≡_, refl, ap, subst}
 use lib.Dec.{eqb}
-use Rattle.laws.proofs.Tests.{and-right, and-both, cond-no, told}
+use Rattle.laws.proofs.Tests.{and-right, and-both, cond-no, told, by, never}
 use Rattle.refusal.specs.declared.Refusal.{Refusal}
 use Rattle.refusal.specs.declared.Refusal.the-variants as refusal
 use Rattle.refusal.specs.declared.Verdict.{Verdict}
@@ -15,10 +14,10 @@ use Rattle.units.specs.Units.{isUnit}
 use Rattle.units.specs.Measurement.{measurementVerdict}
 use Rattle.units.specs.declared.Measurement.{Measurement}
 use Rattle.line.specs.declared.Line.{Line}
-use Rattle.line.specs.Line.{blank, joined, validLine}
+use Rattle.line.specs.Line.{blank, ends, joined, validLine}
 use Rattle.line.proofs.Laws.{blank-valid, joined-valid}
-use Rattle.state.specs.State.{isDone, messageOf, validModes, validMessage, validSource}
-use Rattle.rules.specs.Lens.{greeting, measured}
+use Rattle.state.specs.State.{isDone, validModes, validMessage, validSource}
+use Rattle.rules.specs.Lens.{measured}
 use Rattle.rules.proofs.Kept.{measured-valid}
 use Rattle.port.specs.declared.Port.{Port}
 use Rattle.port.specs.declared.Slotted.{Slotted}
@@ -29,10 +28,12 @@ use Rattle.port.specs.Port.{validPort, slotOf, takenPort, takenOf, recei
 use Rattle.port.specs.Promises.{RefusedSame, KeptValid}
 use Rattle.port.proofs.Valid.{source-valid, message-valid, line-valid, made-valid, slot-fine}
 
--- by a test: what holds of both branches holds of the choice
-pub by : {A : Type 0} (P : A → Type 0) (b : Bool) (x y : A) → (b ≡ true → P x) → (b ≡ false → P y) → P (cond b x y)
-by P true x y f g = f refl
-by P false x y f g = g refl
+-- what holds of the new port where it is accepted, and of the old one refused, holds of what a verdict hands back
+pub by-handed : (P : Handed → Type 0) (v : Verdict) (new old : Port) →
+    (v ≡ Done → P (record { verdict = Done; port = new })) → ((r : Refusal) → P (record { verdict = Refused r; port = old })) → P (handed v new old)
+unfolding handed
+by-handed P Done new old f g = f refl
+by-handed P (Refused r) new old f g = g r
 
 -- ---- refusals
 
@@ -52,43 +53,39 @@ pub record Same (p : Port) (l : Line) (x : Received) : Type 0 where
 
 done-same : (p q : Port) (l k : Line) → Same p l (record { verdict = Done; port = q; line = k })
 done-same p q l k = record {
-  port = λ r e. absurd (let z : _≡_ {A = ℕ} 0 1 = cc in omega arith);
-  with-16 = λ e. absurd (let z : _≡_ {A = ℕ} 0 1 = cc in omega arith);
-  with-7 = λ e. absurd (let z : _≡_ {A = ℕ} 0 1 = cc in omega arith);
+  port = λ r e. never (cc);
+  with-16 = λ e. never (cc);
+  with-7 = λ e. never (cc);
 }
 
 taken-same : (p : Port) (l : Line) → Same p l (takenOf p l)
 unfolding takenOf
 taken-same p l =
     by (Same p l) (p .waiting .some) _ _
-    (λ y. record { port = λ r e. refl; with-16 = λ e. absurd (let z : _≡_ {A = ℕ} 0 1 = cc in omega arith); with-7 = λ e. refl })
+    (λ y. record { port = λ r e. refl; with-16 = λ e. never (cc); with-7 = λ e. refl })
     (λ n. done-same p (takenPort p l) l blank)
 
 receive-same : (p : Port) (l : Line) (b : ℕ) → Same p l (receiveOf p l b)
 unfolding receiveOf
 receive-same p l b =
     by (Same p l) (validPort p && validLine l) _ _
-    (λ v. by (Same p l) (eqb b 13) _ _ (λ y. taken-same p l) (λ n. done-same p p l (joined l b)))
-    (λ n. record { port = λ r e. refl; with-16 = λ e. refl; with-7 = λ e. absurd (let z : _≡_ {A = ℕ} 0 1 = cc in omega arith) })
+    (λ v. by (Same p l) (ends l b) _ _ (λ y. taken-same p l) (λ n. done-same p p l (joined l b)))
+    (λ n. record { port = λ r e. refl; with-16 = λ e. refl; with-7 = λ e. never (cc) })
 
-handed-same : (v : Verdict) (new old : Port) (r : Refusal) → handed v new old .verdict ≡ Refused r → handed v new old .port ≡ old
-unfolding handed
-handed-same Done new old r e = absurd (let z : _≡_ {A = ℕ} 0 1 = cc in omega arith)
-handed-same (Refused x) new old r e = refl
+-- refused, the old port is handed back
+abbrev Kept : Port → Refusal → Handed → Type 0
+Kept old r x = x .verdict ≡ Refused r → x .port ≡ old
+
+handed-same : (v : Verdict) (new old : Port) (r : Refusal) → Kept old r (handed v new old)
+handed-same v new old r = by-handed (Kept old r) v new old (λ d e. never (cc)) (λ x e. refl)
 
 measure-same : (p : Port) (m : Measurement) (r : Refusal) → measureOf p m .verdict ≡ Refused r → measureOf p m .port ≡ p
 unfolding measureOf
-measure-same p m r =
-    by (λ (x : Handed). x .verdict ≡ Refused r → x .port ≡ p) (validPort p) _ _
-    (λ v e. handed-same (measurementVerdict m) (measuredPort p m) p r e)
-    (λ n e. refl)
+measure-same p m r = by (Kept p r) (validPort p) _ _ (λ v. handed-same (measurementVerdict m) (measuredPort p m) p r) (λ n e. refl)
 
 start-same : (old : Port) (s : Settings) (m : Measurement) (r : Refusal) → startOf old s m .verdict ≡ Refused r → startOf old s m .port ≡ old
 unfolding startOf
-start-same old s m r =
-    by (λ (x : Handed). x .verdict ≡ Refused r → x .port ≡ old) (eqb (settingsLowest s) 0) _ _
-    (λ v e. handed-same (measurementVerdict m) (started s m) old r e)
-    (λ n e. refl)
+start-same old s m r = by (Kept old r) (eqb (settingsLowest s) 0) _ _ (λ v. handed-same (measurementVerdict m) (started s m) old r) (λ n e. refl)
 
 pub refused-same : RefusedSame
 refused-same = record {
@@ -114,17 +111,21 @@ started-valid s m a b =
     refl
     blank-valid
 
-handed-valid : (v : Verdict) (new old : Port) → (v ≡ Done → validPort new ≡ true) → handed v new old .verdict ≡ Done → validPort (handed v new old .port) ≡ true
-unfolding handed
-handed-valid Done new old h e = h refl
-handed-valid (Refused x) new old h e = absurd (let z : _≡_ {A = ℕ} 0 1 = cc in omega arith)
+-- an accepted start hands back the started port, which is valid
+record Starts (s : Settings) (m : Measurement) (p : Port) : Type 0 where
+  same : p ≡ started s m
+  valid : validPort p ≡ true
 
-start-valid : (old : Port) (s : Settings) (m : Measurement) → startOf old s m .verdict ≡ Done → validPort (startOf old s m .port) ≡ true
+starts : (old : Port) (s : Settings) (m : Measurement) → startOf old s m .verdict ≡ Done → Starts s m (startOf old s m .port)
 unfolding startOf
-start-valid old s m =
-    by (λ (x : Handed). x .verdict ≡ Done → validPort (x .port) ≡ true) (eqb (settingsLowest s) 0) _ _
-    (λ y e. handed-valid (measurementVerdict m) (started s m) old (started-valid s m y) e)
-    (λ n e. absurd (let z : _≡_ {A = ℕ} 0 1 = cc in omega arith))
+starts old s m =
+    let P : Handed → Type 0 = λ x. x .verdict ≡ Done → Starts s m (x .port) in
+    by P (eqb (settingsLowest s) 0) _ _
+    (λ y. by-handed P (measurementVerdict m) (started s m) old (λ d e. record { same = refl; valid = started-valid s m y d }) (λ r e. never (cc)))
+    (λ n e. never (cc))
+
+pub start-is : (old : Port) (s : Settings) (m : Measurement) → startOf old s m .verdict ≡ Done → startOf old s m .port ≡ started s m
+start-is old s m e = starts old s m e .same
 
 slot-valid : (p : Port) → validPort p ≡ true → validPort (slotOf p .port) ≡ true
 slot-valid p v = slot-fine p v .valid
@@ -136,7 +137,7 @@ receive-valid p l b v =
     let P : Received → Type 0 = λ x. validPort (x .port) ≡ true in
     by P (validPort p && validLine l) _ _
     (λ t.
-    by P (eqb b 13) _ _
+    by P (ends l b) _ _
     (λ y. by P (p .waiting .some) _ _ (λ w. v) (λ w. made-valid (takenPort p l) (source-valid p v) (message-valid p v) (and-right (validPort p) (validLine l) t)))
     (λ n. v))
     (λ n. v)
@@ -146,7 +147,7 @@ unfolding receiveOf takenOf
 kept-line p l b v =
     let P : Received → Type 0 = λ x. validLine (x .line) ≡ true in
     by P (validPort p && validLine l) _ _
-    (λ t. by P (eqb b 13) _ _ (λ y. by P (p .waiting .some) _ _ (λ w. blank-valid) (λ w. blank-valid)) (λ n. joined-valid l b v))
+    (λ t. by P (ends l b) _ _ (λ y. by P (p .waiting .some) _ _ (λ w. blank-valid) (λ w. blank-valid)) (λ n. joined-valid l b v))
     (λ n. v)
 
 -- an accepted measurement in a valid port
@@ -157,17 +158,11 @@ measured-fits p m v d =
     (subst (λ (b : Bool). validSource (cond b (measuredPort p m .source) (p .source)) ≡ true) (ap isDone d) (measured-valid (p .source) m (source-valid p v)))
     (message-valid p v) (line-valid p v)
 
-measure-by : (v : Verdict) (new old : Port) → (v ≡ Done → validPort new ≡ true) → validPort old ≡ true → validPort (handed v new old .port) ≡ true
-unfolding handed
-measure-by Done new old h k = h refl
-measure-by (Refused x) new old h k = k
-
 measure-valid : (p : Port) (m : Measurement) → validPort p ≡ true → validPort (measureOf p m .port) ≡ true
 unfolding measureOf
 measure-valid p m v =
-    by (λ (x : Handed). validPort (x .port) ≡ true) (validPort p) _ _
-    (λ y. measure-by (measurementVerdict m) (measuredPort p m) p (measured-fits p m v) v)
-    (λ n. v)
+    let P : Handed → Type 0 = λ x. validPort (x .port) ≡ true in
+    by P (validPort p) _ _ (λ y. by-handed P (measurementVerdict m) (measuredPort p m) p (measured-fits p m v) (λ r. v)) (λ n. v)
 
 pub kept-valid : KeptValid
-kept-valid = record { start = start-valid; slot = slot-valid; receive = receive-valid; line = kept-line; measure = measure-valid }
+kept-valid = record { start = λ old s m e. starts old s m e .valid; slot = slot-valid; receive = receive-valid; line = kept-line; measure = measure-valid }

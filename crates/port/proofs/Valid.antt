@@ -1,22 +1,23 @@
 -- A slot of a valid port leaves a valid port and is no refusal, rule by rule. Assumes nothing.
-use Prim.Native.Nat.{ℕ, zero, suc, _+_, _≤_, _<_}
-use mathlib.Core.Bool.{Bool, true, false, _&&_, cond}
+use Prim.Native.Nat.{ℕ, _+_, _≤_, _<_}
+use mathlib.Core.Bool.{Bool, true, false, _&&_}
 use mathlib.Core.List.{List, [], _∷_}
-use mathlib.Core.Path.{_≡_, refl, sym, subst, _∙_}
+use mathlib.Core.Path.{_≡_, sym, subst}
 use native.Mathlib.Omega.{arith}
 use borrow.Author.Tests.{le-leb, leb-true, ltb-true}
 use lib.Dec.{leb, ltb}
 use lib.ListN.{length}
-use Rattle.laws.proofs.Tests.{and-left, and-right, and-both, cond-yes, cond-no, told}
+use Rattle.laws.proofs.Tests.{and-left, and-right, and-both, cond-yes, by, never}
 use Rattle.refusal.specs.declared.Refusal.{Refusal}
-use Rattle.line.specs.Line.{validLine, blank}
+use Rattle.line.specs.Line.{validLine}
 use Rattle.line.proofs.Laws.{blank-valid}
 use Rattle.state.specs.declared.Last.{Last}
 use Rattle.state.specs.declared.Message.{Message}
 use Rattle.state.specs.declared.Source.{Source}
 use Rattle.state.specs.declared.Waiting.{Waiting}
-use Rattle.state.specs.State.{messageLength, messageOf, validMessage, validSource}
+use Rattle.state.specs.State.{messageLength, unsent, validMessage, validSource}
 use Rattle.rules.specs.Does.{does, continuous, recordMessage}
+use Rattle.rules.specs.Lens.{longestMessage}
 use Rattle.rules.proofs.Kept.{does-valid, reply-at-most, ended-valid}
 use Rattle.rules.proofs.Lengths.{record-at-most, record-some}
 use Rattle.port.specs.declared.Port.{Port}
@@ -61,12 +62,12 @@ send-fine : (p : Port) (at : ℕ) → validSource (p .source) ≡ true → p .me
 unfolding sendFrom validPort validMessage
 send-fine p at v low more l = record {
   valid = and-both (moved-valid _ (p .source) v) (and-both (and-both (le-leb (p .message .len) messageLength low) (le-leb (at + 1) (p .message .len) (omega arith))) l);
-  answers = λ r e. let z : _≡_ {A = ℕ} 0 1 = cc in omega arith;
+  answers = λ r e. never (cc);
 }
 
-begins-fine : (s : Source) (xs : List ℕ) (k : Last) (w : Waiting) → validSource s ≡ true → 0 < length xs → length xs ≤ 78 → validLine (w .line) ≡ true → Fine (begunWith s (messageOf xs) k w)
+begins-fine : (s : Source) (xs : List ℕ) (k : Last) (w : Waiting) → validSource s ≡ true → 0 < length xs → length xs ≤ longestMessage → validLine (w .line) ≡ true → Fine (begunWith s (unsent xs) k w)
 unfolding begunWith
-begins-fine s xs k w v some low l = send-fine (record { source = s; message = messageOf xs; last = k; waiting = w }) 0 v (omega arith) some l
+begins-fine s xs k w v some low l = send-fine (record { source = s; message = unsent xs; last = k; waiting = w }) 0 v (omega arith) some l
 
 record-fine : (p : Port) → validPort p ≡ true → Fine (beginsRecord p)
 unfolding beginsRecord
@@ -77,11 +78,9 @@ record-fine p v =
 rest-fine : (p : Port) → validPort p ≡ true → Fine (restOf p)
 unfolding restOf
 rest-fine p v =
-    told (continuous (p .source))
-    (λ y. subst Fine (sym (cond-yes _ _ y)) (record-fine p v))
-    (λ n. subst Fine (sym (cond-no _ _ n)) (record { valid = v; answers = λ r e. let z : _≡_ {A = ℕ} 0 1 = cc in omega arith }))
+    by Fine (continuous (p .source)) _ _ (λ y. record-fine p v) (λ n. record { valid = v; answers = λ r e. never (cc) })
 
-answers-fine : (p : Port) (s : Source) (xs : List ℕ) (k : Last) → validPort p ≡ true → validSource s ≡ true → length xs ≤ 78 → Fine (answers p s xs k)
+answers-fine : (p : Port) (s : Source) (xs : List ℕ) (k : Last) → validPort p ≡ true → validSource s ≡ true → length xs ≤ longestMessage → Fine (answers p s xs k)
 unfolding answers
 answers-fine p s [] k v vs low = rest-fine (freed p s) (made-valid (freed p s) vs (message-valid p v) blank-valid)
 answers-fine p s (b ∷ bs) k v vs low = begins-fine s (b ∷ bs) k _ vs (omega arith) low blank-valid
@@ -96,18 +95,14 @@ act-fine p v =
 choose-fine : (p : Port) → validPort p ≡ true → Fine (chooseOf p)
 unfolding chooseOf
 choose-fine p v =
-    told (continuous (p .source) && isReply (p .last))
-    (λ y. subst Fine (sym (cond-yes _ _ y)) (record-fine p v))
-    (λ n.
-    subst Fine (sym (cond-no _ _ n))
-    (told (p .waiting .some)
-    (λ y. subst Fine (sym (cond-yes _ _ y)) (act-fine p v))
-    (λ m. subst Fine (sym (cond-no _ _ m)) (rest-fine p v))))
+    by Fine (continuous (p .source) && isReply (p .last)) _ _
+    (λ y. record-fine p v)
+    (λ n. by Fine (p .waiting .some) _ _ (λ y. act-fine p v) (λ m. rest-fine p v))
 
 pub slot-fine : (p : Port) → validPort p ≡ true → Fine (slotOf p)
 unfolding slotOf
 slot-fine p v =
     subst Fine (sym (cond-yes _ _ v))
-    (told (ltb (p .message .at) (p .message .len))
-    (λ y. subst Fine (sym (cond-yes _ _ y)) (send-fine p (p .message .at) (source-valid p v) (message-low (p .message) (message-valid p v)) (ltb-true _ _ y) (line-valid p v)))
-    (λ n. subst Fine (sym (cond-no _ _ n)) (choose-fine p v)))
+    (by Fine (ltb (p .message .at) (p .message .len)) _ _
+    (λ y. send-fine p (p .message .at) (source-valid p v) (message-low (p .message) (message-valid p v)) (ltb-true _ _ y) (line-valid p v))
+    (λ n. choose-fine p v))

@@ -1,10 +1,10 @@
 -- The port's entries on its state by value: document 01's 'The port, slot by slot'. The contracts cite these.
-use Prim.Native.Nat.{ℕ, zero, suc, _+_}
+use Prim.Native.Nat.{ℕ, _+_}
 use mathlib.Core.Bool.{Bool, true, false, _&&_, _||_, cond}
 use mathlib.Core.List.{List, [], _∷_}
 use lib.Dec.{ltb, eqb}
 use lib.IntN.{pos}
-use lib.ListN.{length, getD, replicate}
+use lib.ListN.{getD, replicate}
 use Rattle.refusal.specs.declared.Refusal.the-variants as refusal
 use Rattle.refusal.specs.declared.Verdict.{Verdict}
 use Rattle.refusal.specs.declared.Verdict.the-variants.{Done, Refused}
@@ -14,17 +14,15 @@ use Rattle.fixed.specs.Fixed.{noFixed, settingsLowest}
 use Rattle.units.specs.declared.Measurement.{Measurement}
 use Rattle.units.specs.Measurement.{measurementVerdict}
 use Rattle.line.specs.declared.Line.{Line}
-use Rattle.line.specs.Line.{blank, joined, validLine}
-use Rattle.state.specs.declared.State.the-variants as state
-use Rattle.state.specs.declared.Sending.the-variants as sending
+use Rattle.line.specs.Line.{blank, ends, joined, validLine}
 use Rattle.state.specs.declared.Last.{Last}
 use Rattle.state.specs.declared.Last.the-variants as last
 use Rattle.state.specs.declared.Message.{Message}
 use Rattle.state.specs.declared.Source.{Source}
 use Rattle.state.specs.declared.Waiting.{Waiting}
-use Rattle.state.specs.State.{messageOf, validMessage, validSource}
-use Rattle.rules.specs.Does.{withModes, rateMoved, Done as Does, does, counts, continuous, recordMessage}
-use Rattle.rules.specs.Lens.{greeting}
+use Rattle.state.specs.State.{unsent, validMessage, validSource}
+use Rattle.rules.specs.Does.{withModes, rateMoved, does, counts, continuous, recordMessage}
+use Rattle.rules.specs.Lens.{startModes, greeting}
 use Rattle.port.specs.declared.Port.{Port}
 use Rattle.port.specs.declared.Sent.the-variants as sent
 use Rattle.port.specs.declared.Slotted.{Slotted}
@@ -59,7 +57,7 @@ unfoldable pub begunWith : Source → Message → Last → Waiting → Slotted
 begunWith s m k w = sendFrom (record { source = s; message = m; last = k; waiting = w }) 0
 
 abbrev pub begins : Source → List ℕ → Last → Waiting → Slotted
-begins s xs k w = begunWith s (messageOf xs) k w
+begins s xs k w = begunWith s (unsent xs) k w
 
 abbrev pub nobody : Waiting
 nobody = record { some = false; line = blank }
@@ -113,7 +111,7 @@ slotOf p =
 abbrev pub takenPort : Port → Line → Port
 takenPort p l = record { source = p .source; message = p .message; last = p .last; waiting = record { some = true; line = l } }
 
--- at CR the line is emptied: taken where no command waits, else dropped
+-- where it ends, at CR, the line is emptied: taken where no command waits, else dropped
 unfoldable pub takenOf : Port → Line → Received
 takenOf p l =
     cond (p .waiting .some)
@@ -123,7 +121,7 @@ takenOf p l =
 unfoldable pub receiveOf : Port → Line → ℕ → Received
 receiveOf p l b =
     cond (validPort p && validLine l)
-    (cond (eqb b 13) (takenOf p l) (record { verdict = Done; port = p; line = joined l b }))
+    (cond (ends l b) (takenOf p l) (record { verdict = Done; port = p; line = joined l b }))
     (record { verdict = Refused refusal.State; port = p; line = l })
 
 -- ---- a measurement, a start
@@ -149,31 +147,17 @@ measureOf p m =
 unfoldable pub unitOf : ℕ → ℕ
 unitOf l = cond (eqb l 73 || eqb l 66) 73 77
 
--- no command waiting, ready, all modes off, film 00, rate number 6
 abbrev pub startedWith : Settings → Measurement → ℕ → Message → Waiting → Port
 startedWith s m unit message waiting = record {
-  source = record {
-    settings = s;
-    measurement = m;
-    modes = record {
-      state = state.Ready;
-      sending = sending.Off;
-      checksum = false;
-      inhibit = false;
-      film = 0;
-      unit = unit;
-      rate = 6;
-      «next_rate» = 6;
-    };
-  };
+  source = record { settings = s; measurement = m; modes = startModes unit };
   message = message;
   last = last.Neither;
   waiting = waiting;
 }
 
--- a start leaves < LF CR to be sent, and the unit is by the start-up letter
+-- a start leaves < LF CR to be sent, no command waiting, and the unit is by the start-up letter
 abbrev pub started : Settings → Measurement → Port
-started s m = startedWith s m (unitOf (s .fixed .letter)) (messageOf greeting) nobody
+started s m = startedWith s m (unitOf (s .fixed .letter)) (unsent greeting) nobody
 
 -- before the first start: zeros for settings and measurement, which no entry but a start takes
 abbrev pub unstarted : Port

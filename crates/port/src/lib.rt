@@ -16,9 +16,8 @@ use units::Measurement;
 ghost use mathlib.Core.Path.{_≡_};
 ghost use mathlib.Core.Bool.{true};
 ghost use Prim.Native.Nat.{_<_};
-ghost use Rattle.state.specs.State.{messageOf, validSource};
-ghost use Rattle.rules.specs.Lens.{greeting};
-ghost use Rattle.port.specs.Port.{validPort, movedIf, sentUpTo, sendFrom, begunWith, beginsRecord, restOf, actOf, chooseOf, slotOf, takenOf, receiveOf, handed, measureOf, unitOf, started, unstarted, startOf, nobody, isReply, replyLast};
+ghost use Rattle.state.specs.State.{messageLength, validSource};
+ghost use Rattle.port.specs.Port.{validPort, sentUpTo, sendFrom, begunWith, beginsRecord, restOf, actOf, chooseOf, slotOf, takenOf, receiveOf, handed, measureOf, unitOf, started, unstarted, startOf, nobody, isReply, replyLast};
 
 pub struct Port {
     pub source: Source,
@@ -66,7 +65,7 @@ pub fn sent_up_to(p: Port, at: usize) -> Port
 
 // The byte at a place leaves.
 fn send_from(p: Port, at: usize) -> Slotted
-    requires { ⌜ at < 128 ⌝ }
+    requires { ⌜ at < messageLength ⌝ }
     ensures { λ r. ⌜ r ≡ sendFrom p at ⌝ }
 {
     let message = p.message;
@@ -250,20 +249,6 @@ fn unit_of(letter: u8) -> u8
     b'M'
 }
 
-// < LF CR, about to be sent.
-fn greeting_message() -> Message
-    ensures { λ r. ⌜ r ≡ messageOf greeting ⌝ }
-{
-    let mut bytes = [0u8; 128];
-    lent::put_byte(&mut bytes, 0, 60);
-    lent::put_pair(&mut bytes, 1, 10, 13);
-    Message {
-        bytes,
-        len: 3,
-        at: 0,
-    }
-}
-
 // < LF CR to be sent, no command waiting, ready, all modes off, film 00, rate number 6.
 fn started_with(settings: Settings, measurement: Measurement) -> Port
     ensures { λ r. ⌜ r ≡ started settings measurement ⌝ }
@@ -286,7 +271,7 @@ fn started_with(settings: Settings, measurement: Measurement) -> Port
     };
     Port {
         source,
-        message: greeting_message(),
+        message: messages::letter_message(b'<', false),
         last: Last::Neither,
         waiting: nobody_waits(),
     }
@@ -374,7 +359,7 @@ impl Port {
                 line,
             };
         }
-        if byte == 13 {
+        if line.ends(byte) {
             return taken(self, line);
         }
         Received {
@@ -394,7 +379,14 @@ impl Port {
                 port: self,
             };
         }
-        advance(self)
+        // A byte under way leaves from here: a call of `advance` copies the port, and so does an answer that is returned unnamed.
+        let at = self.message.at;
+        if at < self.message.len {
+            let sent = send_from(self, at);
+            return sent;
+        }
+        let chosen = advance(self);
+        chosen
     }
 
     // A new measurement: 16, then 1 with the lowest field.

@@ -1,24 +1,23 @@
 -- The pupil's two forms are exact, and the code's readers find what the codecs parse. Assumes nothing.
-use Prim.Native.Nat.{ℕ, zero, suc, _+_, _*_, _/_, _%_, _^_, _≤_, _<_}
+use Prim.Native.Nat.{ℕ, zero, suc, _+_, _/_, _%_, _≤_, _<_}
 use mathlib.Core.List.{List, [], _∷_}
-use mathlib.Core.Bool.{Bool, true, false, _&&_, _||_, not, cond}
+use mathlib.Core.Bool.{Bool, true, false, _&&_, not, cond}
 use mathlib.Core.Path.{_≡_, refl, sym, ap, ap₂, subst, _∙_}
 use native.Mathlib.Omega.{arith}
-use borrow.Author.Tests.{leb-true, le-leb, lt-leb, eqb-true, eq-eqb, ne-eqb, eqb-false, not-true}
-use lib.ListN.{length, take, drop, getD}
+use borrow.Author.Tests.{leb-true, le-leb, eqb-true, eq-eqb, ne-eqb, eqb-false}
+use lib.ListN.{length}
 use lib.Arith.{lt-of-le-ne}
 use lib.Dec.{leb, eqb}
 use lib.IntN.{ℤ, pos, negsuc}
-use Rattle.laws.proofs.Tests.{and-left, and-right, and-both, told, cond-yes, cond-no}
+use Rattle.laws.proofs.Tests.{and-left, told, cond-yes, cond-no, never}
 use Rattle.sign.specs.Sign.{size, below0, signedOf}
 use Rattle.digits.specs.Digits.{readDecimal, readGroups}
 use Rattle.digits.specs.declared.Field.{Field}
 use Rattle.digits.specs.declared.Field.the-variants.{Value, Wrong}
-use Rattle.codec.specs.Codec.{Got, got, bad, Codec, passed, failing, both, chained, fieldSays, number, letter, tagged, _⊗_, through}
+use Rattle.codec.specs.Codec.{got, wrong, passed, failing, both, chained, fieldSays, number, letter, _⊗_}
 use Rattle.codec.proofs.Exact.{Exact, Codes, holds, fine, first-zero, zero-first, passed-is, number-exact, letter-exact, tagged-exact, ⊗-exact, through-exact}
 use Rattle.pupil.specs.Pupil.{pupilOk, sentSo, pupilOf, signByte, isSign, pupilText, pupilCode, pupilPacked, signedField, signedIn, readPupilText, codeIn, readPupilPacked, pupilSays}
-use Rattle.pupil.specs.declared.Signed.{Signed}
-use Rattle.pupil.specs.declared.Signed.the-variants.{Refuse}
+use Rattle.pupil.specs.declared.Signed.the-variants as signed
 
 -- ---- a sign and a size
 
@@ -37,7 +36,7 @@ pub record Taken (below : Bool) (n : ℕ) (z : ℤ) : Type 0 where
 taken-of : (below : Bool) (n : ℕ) → sentSo below n ≡ true → Taken below n (signedOf below n)
 unfolding sentSo
 taken-of false n h = record { ok = and-left (leb n 999) true h; sign = refl; size-is = refl }
-taken-of true zero h = absurd (let z : _≡_ {A = ℕ} 0 1 = cc in omega arith)
+taken-of true zero h = never (cc)
 taken-of true (suc n) h = record { ok = and-left (leb (suc n) 999) (not (eqb (suc n) 0)) h; sign = refl; size-is = refl }
 
 taken : (below : Bool) (n : ℕ) (z : ℤ) → pupilOf below n ≡ got z → Taken below n z
@@ -63,7 +62,7 @@ sign-byte z x h e =
     (λ n.
     told (eqb x 43)
     (λ y. ap (λ (b : Bool). cond b 45 43) (e ∙ n) ∙ sym (eqb-true x 43 y))
-    (λ m. absurd (let z : _≡_ {A = ℕ} 0 1 = cc (rw (m, n) at h) in omega arith)))
+    (λ m. never (cc (rw (m, n) at h))))
 
 text-codes : Codes (letter 10 isSign ⊗ number 10 10 48 3 999) pupilOk (λ z. (signByte z, size z)) (λ p. pupilOf (eqb (p .0) 45) (p .1))
 text-codes = record {
@@ -152,8 +151,8 @@ signed-by x (Value n) = sym (field-says (eqb x 45) n)
 signed-by x Wrong = refl
 
 five : (a x : ℕ) (f : Field) →
-    pupilSays (cond (eqb a 69 && isSign x) (signedIn (eqb x 45) f) Refuse)
-    ≡ cond (eqb a 69) (chained {A = ℕ × ℕ} (λ p. pupilOf (eqb (p .0) 45) (p .1)) (both (passed (isSign x) 10 x) (fieldSays 10 f))) (bad 10)
+    pupilSays (cond (eqb a 69 && isSign x) (signedIn (eqb x 45) f) signed.Wrong)
+    ≡ cond (eqb a 69) (chained {A = ℕ × ℕ} (λ p. pupilOf (eqb (p .0) 45) (p .1)) (both (passed (isSign x) 10 x) (fieldSays 10 f))) (wrong 10)
 unfolding passed both chained pupilSays
 five a x f =
     told (eqb a 69)

@@ -1,7 +1,7 @@
 -- The entrance pupil: field 10, -999..999. Zero is written with plus, in both forms; minus zero is refused.
-use Prim.Native.Nat.{ℕ, _+_, _*_, _/_, _%_}
-use mathlib.Core.List.{List, [], _∷_}
-use mathlib.Core.Bool.{Bool, true, false, _&&_, _||_, not, cond}
+use Prim.Native.Nat.{ℕ, _+_, _/_, _%_}
+use mathlib.Core.List.{List}
+use mathlib.Core.Bool.{Bool, _&&_, _||_, not, cond}
 use lib.ListN.{length, take, drop, getD}
 use lib.Dec.{leb, eqb}
 use lib.IntN.{ℤ}
@@ -9,9 +9,9 @@ use Rattle.sign.specs.Sign.{size, below0, signedOf}
 use Rattle.digits.specs.Digits.{readDecimal, readGroups}
 use Rattle.digits.specs.declared.Field.{Field}
 use Rattle.digits.specs.declared.Field.the-variants.{Value, Wrong}
-use Rattle.codec.specs.Codec.{Got, got, bad, Codec, passed, number, letter, tagged, _⊗_, through}
+use Rattle.codec.specs.Codec.{Got, got, wrong, Codec, passed, number, letter, tagged, _⊗_, through}
 use Rattle.pupil.specs.declared.Signed.{Signed}
-use Rattle.pupil.specs.declared.Signed.the-variants.{Number, Refuse}
+use Rattle.pupil.specs.declared.Signed.the-variants as signed
 
 abbrev pub pupilOk : ℤ → Bool
 pupilOk z = leb (size z) 999
@@ -45,11 +45,11 @@ pupilPacked = through 10 pupilOk pupilCode (λ k. pupilOf (eqb (k / 2048) 1) (k 
 -- ---- what the code's readers answer
 
 unfoldable pub signedField : Bool → ℕ → Signed
-signedField below n = cond (sentSo below n) (Number (signedOf below n)) Refuse
+signedField below n = cond (sentSo below n) (signed.Number (signedOf below n)) signed.Wrong
 
 abbrev pub signedIn : Bool → Field → Signed
 signedIn below (Value n) = signedField below n
-signedIn below Wrong = Refuse
+signedIn below Wrong = signed.Wrong
 
 -- E and a sign
 abbrev pub isMarked : ℕ → ℕ → Bool
@@ -58,17 +58,17 @@ isMarked a x = eqb a 69 && isSign x
 unfoldable pub readPupilText : List ℕ → Signed
 readPupilText s =
     cond (eqb (length s) 5)
-    (cond (isMarked (getD s 0 0) (getD s 1 0)) (signedIn (eqb (getD s 1 0) 45) (readDecimal 999 (take 3 (drop 2 s)))) Refuse)
-    Refuse
+    (cond (isMarked (getD s 0 0) (getD s 1 0)) (signedIn (eqb (getD s 1 0) 45) (readDecimal 999 (take 3 (drop 2 s)))) signed.Wrong)
+    signed.Wrong
 
 abbrev pub codeIn : Field → Signed
 codeIn (Value k) = signedField (eqb (k / 2048) 1) (k % 2048)
-codeIn Wrong = Refuse
+codeIn Wrong = signed.Wrong
 
 unfoldable pub readPupilPacked : List ℕ → Signed
-readPupilPacked s = cond (eqb (length s) 2) (codeIn (readGroups 4095 s)) Refuse
+readPupilPacked s = cond (eqb (length s) 2) (codeIn (readGroups 4095 s)) signed.Wrong
 
 -- what an answer says of field 10
 unfoldable pub pupilSays : Signed → Got ℤ
-pupilSays (Number z) = got z
-pupilSays Refuse = bad 10
+pupilSays (signed.Number z) = got z
+pupilSays signed.Wrong = wrong 10

@@ -8,7 +8,7 @@ ghost use Rattle.pupil.specs.Pupil.{signByte, isMarked, signedField, pup
 // What the bytes of the field hold: a number, or what no writer writes.
 pub enum Signed {
     Number(i32),
-    Refuse,
+    Wrong,
 }
 
 // The number with this sign and size, where a writer sends it so.
@@ -16,10 +16,10 @@ fn signed_field(below: bool, n: u32) -> Signed
     ensures { λ r. ⌜ r ≡ signedField below n ⌝ }
 {
     if 999 < n {
-        return Signed::Refuse;
+        return Signed::Wrong;
     }
     if below & (n == 0) {
-        return Signed::Refuse;
+        return Signed::Wrong;
     }
     Signed::Number(sign::signed_of(below, n as u16))
 }
@@ -28,7 +28,7 @@ fn signed_field(below: bool, n: u32) -> Signed
 fn sign_byte(e: i32) -> u8
     ensures { λ r. ⌜ r ≡ signByte e ⌝ }
 {
-    if sign::is_below(e) { 45 } else { 43 }
+    if sign::is_below(e) { b'-' } else { b'+' }
 }
 
 // The number that is sent as two groups.
@@ -48,7 +48,7 @@ pub fn put_pupil_text(out: &mut [u8], at: usize, e: i32)
     if !lent::has_room(out.len(), at, 5) {
         return;
     }
-    lent::put_byte(out, at, 69);
+    lent::put_byte(out, at, b'E');
     codec::put_tagged(out, at + 1, sign_byte(e), 3, sign::size_of(e));
 }
 
@@ -63,7 +63,7 @@ pub fn put_pupil_packed(out: &mut [u8], at: usize, e: i32)
 fn is_marked(tag: u8, sign: u8) -> bool
     ensures { λ r. ⌜ r ≡ isMarked tag sign ⌝ }
 {
-    (tag == 69) & ((sign == 43) | (sign == 45))
+    (tag == b'E') & ((sign == b'+') | (sign == b'-'))
 }
 
 // Reads E, the sign and three digits.
@@ -71,15 +71,15 @@ pub fn read_pupil_text(s: &[u8]) -> Signed
     ensures { λ r. ⌜ r ≡ readPupilText (now (s .entry)) ⌝ }
 {
     if s.len() != 5 {
-        return Signed::Refuse;
+        return Signed::Wrong;
     }
     if !is_marked(s[0], s[1]) {
-        return Signed::Refuse;
+        return Signed::Wrong;
     }
     let Field::Value(n) = digits::read_decimal(&s[2..5], 999) else {
-        return Signed::Refuse;
+        return Signed::Wrong;
     };
-    signed_field(s[1] == 45, n)
+    signed_field(s[1] == b'-', n)
 }
 
 // Reads the two groups.
@@ -87,10 +87,10 @@ pub fn read_pupil_packed(s: &[u8]) -> Signed
     ensures { λ r. ⌜ r ≡ readPupilPacked (now (s .entry)) ⌝ }
 {
     if s.len() != 2 {
-        return Signed::Refuse;
+        return Signed::Wrong;
     }
     let Field::Value(k) = digits::read_groups(s, 4095) else {
-        return Signed::Refuse;
+        return Signed::Wrong;
     };
     signed_field(k / 2048 == 1, k % 2048)
 }

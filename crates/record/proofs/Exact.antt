@@ -1,9 +1,9 @@
 -- Both forms are exact, and both send exactly the records that the one rule allows. Assumes nothing.
 use Prim.Native.Nat.{ℕ, suc, _<_, _≤_, _^_}
 use mathlib.Core.Path.{_≡_, refl}
-use mathlib.Core.List.{List}
 use native.Mathlib.Omega.{arith}
-use Rattle.codec.specs.Codec.{Codec, number}
+use Rattle.digits.specs.Digits.{widest}
+use Rattle.codec.specs.Codec.{number}
 use Rattle.codec.proofs.Exact.{Exact, number-exact, text-exact, tagged-exact, ⊗-exact, iso-exact}
 use Rattle.pointed.specs.Pointed.{pointed}
 use Rattle.pointed.proofs.Exact.{pointed-exact}
@@ -12,14 +12,14 @@ use Rattle.stop.proofs.Exact.{stop-exact, pair-exact}
 use Rattle.pupil.specs.Pupil.{pupilText, pupilPacked}
 use Rattle.pupil.proofs.Exact.{text-exact as pupil-text-exact, packed-exact as pupil-packed-exact}
 use Rattle.record.specs.Record.{topDistance, frontLowest, middleLowest, backLowest, figuresLowest, recordLowest}
-use Rattle.record.specs.Forms.{frontText, middleText, backText, frontPacked, middlePacked, backPacked, serial, recordOf, partsOf, textForm, packedForm}
+use Rattle.record.specs.Forms.{frontText, middleText, backText, frontPacked, middlePacked, backPacked, serial, recordOf, partsOf, textLength, packedLength, textForm, packedForm}
 use Rattle.record.specs.declared.Record.{Record}
 
 -- a number of the two bases, as wide as its range asks
-decimal-exact : (i w top : ℕ) → w ≤ 7 → top < 10 ^ w → Exact (number (suc i) 10 48 w top)
+decimal-exact : (i w top : ℕ) → w ≤ widest → top < 10 ^ w → Exact (number (suc i) 10 48 w top)
 decimal-exact i w top h k = number-exact i 10 48 w top (omega arith) h k
 
-groups-exact : (i w top : ℕ) → w ≤ 7 → top < 64 ^ w → Exact (number (suc i) 64 64 w top)
+groups-exact : (i w top : ℕ) → w ≤ widest → top < 64 ^ w → Exact (number (suc i) 64 64 w top)
 groups-exact i w top h k = number-exact i 64 64 w top (omega arith) h k
 
 front-text-exact : Exact frontText
@@ -87,10 +87,10 @@ pub packed-lowest : (r : Record) → packedForm .lowest r ≡ recordLowest r
 unfolding packedForm frontPacked middlePacked backPacked serial pair pupilPacked recordLowest figuresLowest frontLowest middleLowest backLowest
 packed-lowest r = refl
 
-pub text-form-width : textForm .width ≡ 74
+pub text-form-width : textForm .width ≡ textLength
 unfolding textForm frontText middleText backText serial stop pointed pupilText
 text-form-width = refl
 
-pub packed-form-width : packedForm .width ≡ 39
+pub packed-form-width : packedForm .width ≡ packedLength
 unfolding packedForm frontPacked middlePacked backPacked serial pair pupilPacked
 packed-form-width = refl

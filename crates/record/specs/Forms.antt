@@ -88,10 +88,17 @@ recordOf p = record { figures = figuresOf (p .0); serial = p .1 }
 abbrev pub partsOf : Record → Parts
 partsOf r = ((frontOf (r .figures), (middleOf (r .figures), backOf (r .figures))), r .serial)
 
--- a record's contents as text: 74 bytes
+-- how many bytes a record's contents take: as text, and packed
+abbrev pub textLength : ℕ
+textLength = 74
+
+abbrev pub packedLength : ℕ
+packedLength = 39
+
+-- a record's contents as text
 unfoldable pub textForm : Codec Record
 textForm = viaIso recordOf partsOf ((frontText ⊗ (middleText ⊗ backText)) ⊗ serial)
 
--- a record's contents packed: 39 bytes
+-- a record's contents packed
 unfoldable pub packedForm : Codec Record
 packedForm = viaIso recordOf partsOf ((frontPacked ⊗ (middlePacked ⊗ backPacked)) ⊗ serial)

@@ -1,14 +1,12 @@
 -- What may be sent: document 01's table of ranges, one rule for both forms. The answer is the lowest field out of range, 0 where there is none.
 use Prim.Native.Nat.{ℕ}
-use mathlib.Core.Bool.{Bool, _&&_}
-use mathlib.Core.List.{List}
-use lib.Dec.{leb, eqb}
+use lib.Dec.{leb}
 use lib.IntN.{pos}
-use lib.ListN.{length, replicate}
+use lib.ListN.{replicate}
 use Rattle.refusal.specs.Answer.{Answer, accepted, refused}
 use Rattle.refusal.specs.declared.Verdict.the-variants.{Done, Refused}
 use Rattle.sign.specs.Sign.{size}
-use Rattle.codec.specs.Codec.{failing, first, printable}
+use Rattle.codec.specs.Codec.{failing, first, textOk}
 use Rattle.stop.specs.Stop.{stopOk}
 use Rattle.record.specs.declared.Figures.{Figures}
 use Rattle.record.specs.declared.Record.{Record}
@@ -47,9 +45,9 @@ backLowest most f =
 unfoldable pub figuresLowest : ℕ → ℕ → Figures → ℕ
 figuresLowest top most f = first (frontLowest top f) (first (middleLowest top f) (backLowest most f))
 
--- and field 12: nine bytes, each 20..7E hex
+-- and field 12: a text of nine bytes
 unfoldable pub recordLowest : Record → ℕ
-recordLowest r = first (figuresLowest topDistance topPupil (r .figures)) (failing (eqb (length (r .serial)) 9 && printable (r .serial)) 12)
+recordLowest r = first (figuresLowest topDistance topPupil (r .figures)) (failing (textOk 9 (r .serial)) 12)
 
 -- ---- what a reader of a record answers: the record, or a refusal beside a record of zeros
 

@@ -6,6 +6,11 @@ ghost use mathlib.Core.Path.{_≡_};
 ghost use Rattle.refusal.specs.Answer.{accepted, refused};
 ghost use Rattle.record.specs.Record.{frontLowest, middleLowest, backLowest, figuresLowest, recordLowest, recordRead};
 
+// How many bytes a record's contents take: as text, and packed.
+pub const TEXT_LENGTH: usize = 74;
+
+pub const PACKED_LENGTH: usize = 39;
+
 // Fields 1 to 11: what a record and a measurement share.
 pub struct Figures {
     // 1

@@ -5,7 +5,7 @@ use Rattle.laws.proofs.OneAnswer.{one-answer}
 use Rattle.line.specs.declared.Line.{Line}
 use Rattle.state.specs.declared.Message.{Message}
 use Rattle.state.specs.declared.Source.{Source}
-use Rattle.state.specs.State.{messageOf}
+use Rattle.state.specs.State.{unsent}
 use Rattle.rules.specs.Does.{does, counts, continuous, recordMessage}
 use Rattle.reply.specs.declared.Acted.{Acted}
 use Rattle.reply.specs.Reply.{actedOf}
@@ -19,5 +19,5 @@ one-counts s l = one-answer
 pub one-is-continuous : (s : Source) {r r′ : Bool} → r ≡ continuous s → r′ ≡ continuous s → r ≡ r′
 one-is-continuous s = one-answer
 
-pub one-record-message : (s : Source) {r r′ : Message} → r ≡ messageOf (recordMessage s) → r′ ≡ messageOf (recordMessage s) → r ≡ r′
+pub one-record-message : (s : Source) {r r′ : Message} → r ≡ unsent (recordMessage s) → r′ ≡ unsent (recordMessage s) → r ≡ r′
 one-record-message s = one-answer

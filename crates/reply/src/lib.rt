@@ -3,6 +3,7 @@
 use line::Command;
 use line::Line;
 use record::Record;
+use state::MESSAGE_LENGTH;
 use state::Message;
 use state::Modes;
 use state::Sending;
@@ -11,14 +12,14 @@ use state::State;
 ghost use mathlib.Core.Path.{_≡_};
 ghost use mathlib.Core.Bool.{true};
 ghost use mathlib.Core.List.{[], _∷_};
-ghost use Prim.Native.Nat.{_+_, _≤_};
+ghost use Prim.Native.Nat.{_≤_};
 ghost use Rattle.refusal.specs.declared.Verdict.the-variants.{Done};
 ghost use Rattle.frame.specs.Frame.{framed};
 ghost use Rattle.fixed.specs.Form.{fixedForm};
 ghost use Rattle.units.specs.Measurement.{measurementVerdict, degrees};
 ghost use Rattle.line.specs.Command.{InRange};
 ghost use Rattle.line.specs.declared.Command.the-variants as lines;
-ghost use Rattle.state.specs.State.{messageOf, validSource};
+ghost use Rattle.state.specs.State.{unsent, validSource};
 ghost use Rattle.rules.specs.Does as table;
 ghost use Rattle.reply.specs.Reply.{actedOf};
 
@@ -46,7 +47,7 @@ fn record_now(source: Source) -> Record
 // The record in this form; where continuous sending is off, the text.
 fn record_in(source: Source, form: Sending) -> Message
     requires { ⌜ measurementVerdict (source .measurement) ≡ Done ⌝ }
-    ensures { λ r. ⌜ r ≡ messageOf (framed (source .modes .checksum) (table.recordIs form source)) ⌝ }
+    ensures { λ r. ⌜ r ≡ unsent (framed (source .modes .checksum) (table.recordIs form source)) ⌝ }
 {
     let record = record_now(source);
     let modes = source.modes;
@@ -65,7 +66,7 @@ fn silent(source: Source) -> Acted
     ensures { λ r. ⌜ r ≡ actedOf (table.silent source) ⌝ }
 {
     let message = Message {
-        bytes: [0u8; 128],
+        bytes: [0u8; MESSAGE_LENGTH],
         len: 0,
         at: 0,
     };
@@ -149,7 +150,7 @@ fn temperature(source: Source) -> Acted
 // V, W: the film, and its blur circle.
 fn film(source: Source, letter: u8, n: u8) -> Acted
     requires { ⌜ n ≤ 31 ⌝ }
-    ensures { λ r. ⌜ r ≡ actedOf (table.replies (table.withModes source (table.filmNow n (source .modes))) (letter ∷ table.blurOf n (source .settings))) ⌝ }
+    ensures { λ r. ⌜ r ≡ actedOf (table.filmed letter n source) ⌝ }
 {
     let mut modes = source.modes;
     modes.film = n;
@@ -167,13 +168,13 @@ fn film(source: Source, letter: u8, n: u8) -> Acted
 // Kb: the rate that follows.
 fn rate(source: Source, n: u8) -> Acted
     requires { ⌜ n ≤ 7 ⌝ }
-    ensures { λ r. ⌜ r ≡ actedOf (table.replies (table.withModes source (table.rateNext n (source .modes))) (75 ∷ 98 ∷ (48 + n) ∷ 33 ∷ [])) ⌝ }
+    ensures { λ r. ⌜ r ≡ actedOf (table.runs source (lines.Kb n)) ⌝ }
 {
     let mut modes = source.modes;
     modes.next_rate = n;
     let mut after = source;
     after.modes = modes;
-    let message = messages::rate_message(48 + n, modes.checksum);
+    let message = messages::rate_message(b'0' + n, modes.checksum);
     Acted {
         source: after,
         message,
@@ -327,7 +328,7 @@ fn is_n(command: Command) -> bool
 
 // The fixed data, and on to running.
 fn woken(source: Source) -> Acted
-    ensures { λ r. ⌜ r ≡ actedOf (table.replies (table.withModes source (table.runningNow (source .modes))) (fixedForm .print (source .settings .fixed))) ⌝ }
+    ensures { λ r. ⌜ r ≡ actedOf (table.wakes source) ⌝ }
 {
     let m = source.modes;
     let sending = m.sending;
@@ -399,7 +400,7 @@ pub fn is_continuous(source: Source) -> bool
 // The record that continuous sending starts.
 pub fn record_message(source: Source) -> Message
     requires { ⌜ validSource source ≡ true ⌝ }
-    ensures { λ r. ⌜ r ≡ messageOf (table.recordMessage source) ⌝ }
+    ensures { λ r. ⌜ r ≡ unsent (table.recordMessage source) ⌝ }
 {
     let modes = source.modes;
     let sending = modes.sending;

@@ -7,9 +7,9 @@ use native.Mathlib.Omega.{arith}
 use borrow.Author.Tests.{eqb-true, le-leb}
 use lib.Dec.{leb, eqb}
 use lib.ListN.{length}
-use Rattle.laws.proofs.Tests.{told, cond-no}
+use Rattle.laws.proofs.Tests.{told, cond-no, never}
+use Rattle.record.specs.Forms.{textLength}
 use Rattle.fixed.specs.Fixed.{letterOk, lensLowest, fixedLowest, settingsLowest}
-use Rattle.fixed.specs.Form.{fixedForm}
 use Rattle.fixed.specs.declared.Settings.{Settings}
 use Rattle.units.specs.Units.{isUnit}
 use Rattle.units.specs.Measurement.{measurementVerdict}
@@ -23,12 +23,13 @@ use Rattle.state.specs.declared.Source.{Source}
 use Rattle.state.specs.declared.Modes.{Modes}
 use Rattle.state.specs.declared.State.{State}
 use Rattle.state.specs.declared.State.the-variants.{Ready, Running}
+use Rattle.state.specs.declared.Sending.the-variants as sending
 use Rattle.state.specs.State.{isDone, validSource}
-use Rattle.rules.specs.Does.{Done as Does, withModes, filmNow, rateNext, rateMoved, runningNow, unitWith, turned, letterNow, isOn, continuous, replies, silent, runs, isN, readies, doesIn, does, countsIn, counts}
-use Rattle.rules.specs.Lens.{measured, Good, longestReply}
+use Rattle.rules.specs.Does.{Outcome, withModes, filmNow, rateNext, rateMoved, unitWith, turned, letterNow, isOn, continuous, replies, silent, runs, isN, wakes, readies, doesIn, does, countsIn, counts}
+use Rattle.rules.specs.Lens.{Given, measurement, measured, updated, Good, longestReply}
 use Rattle.rules.proofs.Valid.{Valid, done-is, valid-told, valid-made, untouched-valid}
 use Rattle.rules.proofs.Readings.{untouched}
-use Rattle.rules.proofs.Lengths.{framed-at-most, items-told, degrees-long, blur-long, text-is-74, packed-is-39, fixed-is-65}
+use Rattle.rules.proofs.Lengths.{framed-at-most, items-told, degrees-long, blur-long, fixed-long, record-body}
 
 -- ---- the effects
 
@@ -80,11 +81,11 @@ unit-valid u to s k h p = record {
 -- ---- the commands
 
 -- what a command does is in order: the source is valid, and the reply fits
-record Fine (d : Does) : Type 0 where
+record Fine (d : Outcome) : Type 0 where
   valid : Valid (d .source)
   fits : length (d .reply) ≤ longestReply
 
-replies-fine : (s : Source) (body : List ℕ) → Valid s → length body ≤ 74 → Fine (replies s body)
+replies-fine : (s : Source) (body : List ℕ) → Valid s → length body ≤ textLength → Fine (replies s body)
 unfolding replies
 replies-fine s body p h = record { valid = p; fits = omega (arith, framed-at-most (s .modes .checksum) body) }
 
@@ -100,16 +101,16 @@ runs-fine : (s : Source) (c : Command) → Valid s → InRange c → Fine (runs 
 unfolding runs letterOk
 runs-fine s B p r = replies-fine s _ p (omega (arith, items-told (s .settings) (p .settings) .version))
 runs-fine s C p r = replies-fine _ _ (untouched-valid s _ (untouched s _ _ _ _) p) (omega arith)
-runs-fine s D p r = replies-fine s _ p (omega (arith, text-is-74 s p))
+runs-fine s D p r = replies-fine s _ p (record-body s p sending.Text)
 runs-fine s G p r = replies-fine _ _ (untouched-valid s _ (untouched s _ _ _ _) p) (omega arith)
 runs-fine s H p r = replies-fine _ _ (untouched-valid s _ (untouched s _ _ _ _) p) (omega arith)
 runs-fine s Ka p r = replies-fine _ _ (untouched-valid s _ (untouched s _ _ _ _) p) (omega arith)
 runs-fine s (Kb n) p r = replies-fine _ _ (rate-valid n s (r .rate n refl) p) (omega arith)
 runs-fine s Kc p r = replies-fine _ _ (untouched-valid s _ (untouched s _ _ _ _) p) (omega arith)
-runs-fine s Kd p r = replies-fine s _ p (omega (arith, packed-is-39 s p))
+runs-fine s Kd p r = replies-fine s _ p (record-body s p sending.Packed)
 runs-fine s K3 p r = replies-fine s _ p (omega (arith, items-told (s .settings) (p .settings) .maker))
 runs-fine s K4 p r = replies-fine s _ p (omega (arith, items-told (s .settings) (p .settings) .type-name))
-runs-fine s N p r = replies-fine s _ p (omega (arith, fixed-is-65 s p))
+runs-fine s N p r = replies-fine s _ p (omega (arith, fixed-long s p))
 runs-fine s P p r = replies-fine s _ p (omega (arith, degrees-long (s .measurement .temperature)))
 runs-fine s «V» p r = replies-fine _ _ (film-valid 0 s (omega arith) p) (omega (arith, blur-long 0 (s .settings)))
 runs-fine s (W n) p r = replies-fine _ _ (film-valid n s (r .film n refl) p) (omega (arith, blur-long n (s .settings)))
@@ -121,15 +122,15 @@ readies-fine : (s : Source) (c : Command) → Valid s → Fine (readies s c)
 unfolding readies
 readies-fine s c p = go (isN c)
   where
-    go : (n : Bool) → Fine (cond n (replies (withModes s (runningNow (s .modes))) (fixedForm .print (s .settings .fixed))) (replies s (60 ∷ [])))
-    go true = replies-fine _ _ (untouched-valid s _ (untouched s _ _ _ _) p) (omega (arith, fixed-is-65 s p))
+    go : (n : Bool) → Fine (cond n (wakes s) (replies s (60 ∷ [])))
+    go true = replies-fine _ _ (untouched-valid s _ (untouched s _ _ _ _) p) (omega (arith, fixed-long s p))
     go false = replies-fine s _ p (omega arith)
 
 does-fine : (s : Source) (l : Line) → validSource s ≡ true → Fine (does s l)
 unfolding does doesIn
 does-fine s l v = go (s .modes .state)
   where
-    go : (t : State) → Fine (doesIn t s (commandOf l))
+    go : (t : State) → Fine (doesIn t s l)
     go Ready = readies-fine s (commandOf l) (valid-told s v)
     go Running = runs-fine s (commandOf l) (valid-told s v) (command-range l)
 
@@ -194,25 +195,19 @@ pub uncounted-off : (s : Source) (l : Line) → Good s → counts s l ≡ false 
 unfolding does doesIn counts countsIn
 uncounted-off s l g = go (s .modes .state) refl
   where
-    c : Command
-    c = commandOf l
-
-    go : (t : State) → s .modes .state ≡ t → countsIn t c ≡ false → continuous (doesIn t s c .source) ≡ false
-    go Ready e f = readies-sending s c ∙ g .ready-off e
+    go : (t : State) → s .modes .state ≡ t → countsIn t l ≡ false → continuous (doesIn t s l .source) ≡ false
+    go Ready e f = readies-sending s (commandOf l) ∙ g .ready-off e
     go Running e f = absurd (true≢false f)
 
 ready-off-kept : (s : Source) (l : Line) → Good s → does s l .source .modes .state ≡ Ready → continuous (does s l .source) ≡ false
 unfolding does doesIn
 ready-off-kept s l g = go (s .modes .state) refl
   where
-    c : Command
-    c = commandOf l
-
-    go : (t : State) → s .modes .state ≡ t → doesIn t s c .source .modes .state ≡ Ready → continuous (doesIn t s c .source) ≡ false
-    go Ready e h = readies-sending s c ∙ g .ready-off e
+    go : (t : State) → s .modes .state ≡ t → doesIn t s l .source .modes .state ≡ Ready → continuous (doesIn t s l .source) ≡ false
+    go Ready e h = readies-sending s (commandOf l) ∙ g .ready-off e
     go Running e h =
-        let r : Running ≡ Ready = sym e ∙ sym (runs-state s c) ∙ h in
-        absurd (let z : _≡_ {A = ℕ} 0 1 = cc in omega arith)
+        let r : Running ≡ Ready = sym e ∙ sym (runs-state s (commandOf l)) ∙ h in
+        never (cc)
 
 pub act-good : (s : Source) (l : Line) → Good s → Good (does s l .source)
 act-good s l g = record { valid = does-valid s l (g .valid); ready-off = ready-off-kept s l g }
@@ -224,10 +219,13 @@ measured-modes : (s : Source) (m : Measurement) → measured s m .modes ≡ s .m
 unfolding measured
 measured-modes s m = told (isDone (measurementVerdict m)) (λ e. rw e) (λ e. rw e)
 
-pub measured-good : (s : Source) (m : Measurement) → Good s → Good (measured s m)
+measured-good : (s : Source) (m : Measurement) → Good s → Good (measured s m)
 measured-good s m g =
     let q = measured-modes s m in
     record {
       valid = measured-valid s m (g .valid);
       ready-off = λ h. ap (λ (x : Modes). isOn (x .sending)) q ∙ g .ready-off (sym (ap (λ (x : Modes). x .state) q) ∙ h);
     }
+
+pub updated-good : (s : Source) (x : Given) → Good s → Good (updated s x)
+updated-good s (measurement m) g = measured-good s m g

@@ -1,24 +1,23 @@
 -- How long the bodies of a valid source's messages are: each form is as wide as its table, each text as long as its item. Assumes nothing.
 use Prim.Native.Nat.{ℕ, suc, _+_, _≤_, _<_}
 use mathlib.Core.Bool.{Bool, true, false}
-use mathlib.Core.List.{List}
-use mathlib.Core.Path.{_≡_, ap, _∙_}
+use mathlib.Core.List.{List, [], _∷_}
+use mathlib.Core.Path.{_≡_, refl, ap, _∙_}
 use native.Mathlib.Nat.{le-of-eq}
 use native.Mathlib.Omega.{arith}
-use borrow.Author.Tests.{eqb-true}
 use lib.IntN.{ℤ}
-use lib.ListN.{length, length-append, getD}
-use Rattle.laws.proofs.Tests.{and-left}
-use Rattle.codec.specs.Codec.{printable}
+use lib.ListN.{length, getD}
+use Rattle.codec.specs.Codec.{textOk}
+use Rattle.codec.proofs.Texts.{text-long}
 use Rattle.codec.proofs.Exact.{holds, first-zero}
 use Rattle.digits.proofs.Laws.{length-digits}
-use Rattle.frame.specs.Frame.{ending, framed}
-use Rattle.frame.proofs.Exactly.{ending-long}
+use Rattle.frame.specs.Frame.{ending, endingWidth, framed}
+use Rattle.frame.proofs.Exactly.{ending-short, ending-some, framed-long}
 use Rattle.record.specs.Record.{recordLowest}
-use Rattle.record.specs.Forms.{textForm, packedForm}
+use Rattle.record.specs.Forms.{textLength, packedLength, textForm, packedForm}
 use Rattle.record.proofs.Exact.{text-form-exact, text-lowest, text-form-width, packed-form-exact, packed-lowest, packed-form-width}
-use Rattle.fixed.specs.Fixed.{textOk, fixedLowest, settingsLowest}
-use Rattle.fixed.specs.Form.{fixedForm}
+use Rattle.fixed.specs.Fixed.{fixedLowest, settingsLowest}
+use Rattle.fixed.specs.Form.{fixedLength, fixedForm}
 use Rattle.fixed.specs.declared.Settings.{Settings}
 use Rattle.fixed.proofs.Exact.{fixed-form-exact, fixed-lowest, fixed-form-width}
 use Rattle.units.specs.Measurement.{degrees}
@@ -28,25 +27,24 @@ use Rattle.state.specs.declared.Sending.{Sending}
 use Rattle.state.specs.declared.Sending.the-variants as sending
 use Rattle.state.specs.State.{validSource}
 use Rattle.rules.specs.Does.{recordNow, blurOf, recordIs, recordMessage}
-use Rattle.rules.specs.Lens.{longestRecord}
+use Rattle.rules.specs.Lens.{greeting, longestRecord}
 use Rattle.rules.proofs.Valid.{Valid, valid-told}
 
 -- ---- the frame
 
--- a message is at most 4 longer than its body, and never empty
-pub framed-at-most : (checksum : Bool) (body : List ℕ) → length (framed checksum body) ≤ length body + 4
-framed-at-most true body = omega (arith, length-append body (ending true body), ending-long true body)
-framed-at-most false body = omega (arith, length-append body (ending false body), ending-long false body)
+-- a message is at most a checksum and LF CR longer than its body, and never empty
+pub framed-at-most : (checksum : Bool) (body : List ℕ) → length (framed checksum body) ≤ length body + endingWidth true
+framed-at-most checksum body = omega (arith, framed-long checksum (length body) body refl, ending-short checksum)
 
 pub framed-some : (checksum : Bool) (body : List ℕ) → 0 < length (framed checksum body)
-framed-some true body = omega (arith, length-append body (ending true body), ending-long true body)
-framed-some false body = omega (arith, length-append body (ending false body), ending-long false body)
+framed-some checksum body = omega (arith, framed-long checksum (length body) body refl, ending-some checksum)
+
+-- a start's < LF CR is a message too
+pub greeting-is : greeting ≡ framed false (60 ∷ [])
+unfolding ending
+greeting-is = refl
 
 -- ---- the texts
-
-text-long : (n : ℕ) (s : List ℕ) → textOk n s ≡ true → length s ≡ n
-unfolding textOk
-text-long n s h = eqb-true (length s) n (and-left _ (printable s) h)
 
 -- what settings in range say
 pub record Items (s : Settings) : Type 0 where
@@ -88,24 +86,23 @@ module _ (s : Source) (p : Valid s) where
   items = items-told (s .settings) (p .settings)
 
   sendable : recordLowest (recordNow s) ≡ 0
-  unfolding textOk
   sendable = sendable-in-either-unit (s .measurement) (s .modes .unit) (s .settings .fixed .serial) (p .measurement) (p .unit) (items .serial)
 
-  pub text-is-74 : length (textForm .print (recordNow s)) ≡ 74
-  text-is-74 = text-form-exact .long (recordNow s) (text-lowest (recordNow s) ∙ sendable) ∙ text-form-width
+  record-text-long : length (textForm .print (recordNow s)) ≡ textLength
+  record-text-long = text-form-exact .long (recordNow s) (text-lowest (recordNow s) ∙ sendable) ∙ text-form-width
 
-  pub packed-is-39 : length (packedForm .print (recordNow s)) ≡ 39
-  packed-is-39 = packed-form-exact .long (recordNow s) (packed-lowest (recordNow s) ∙ sendable) ∙ packed-form-width
+  record-packed-long : length (packedForm .print (recordNow s)) ≡ packedLength
+  record-packed-long = packed-form-exact .long (recordNow s) (packed-lowest (recordNow s) ∙ sendable) ∙ packed-form-width
 
-  pub fixed-is-65 : length (fixedForm .print (s .settings .fixed)) ≡ 65
-  fixed-is-65 = fixed-form-exact .long (s .settings .fixed) (fixed-lowest (s .settings .fixed) ∙ items .fixed) ∙ fixed-form-width
+  pub fixed-long : length (fixedForm .print (s .settings .fixed)) ≡ fixedLength
+  fixed-long = fixed-form-exact .long (s .settings .fixed) (fixed-lowest (s .settings .fixed) ∙ items .fixed) ∙ fixed-form-width
 
   -- whatever continuous sending sends
-  record-body : (x : Sending) → length (recordIs x s) ≤ 74
+  pub record-body : (x : Sending) → length (recordIs x s) ≤ textLength
   unfolding recordIs
-  record-body sending.Off = le-of-eq text-is-74
-  record-body sending.Text = le-of-eq text-is-74
-  record-body sending.Packed = omega (arith, packed-is-39)
+  record-body sending.Off = le-of-eq record-text-long
+  record-body sending.Text = le-of-eq record-text-long
+  record-body sending.Packed = omega (arith, record-packed-long)
 
   record-fits : length (recordMessage s) ≤ longestRecord
   unfolding recordMessage

@@ -1,5 +1,6 @@
 pub mod Valid
 pub mod Readings
+pub mod Unread
 pub mod Lengths
 pub mod Kept
 pub mod Demand3

@@ -1,9 +1,10 @@
 -- The table says what the readings ask, for every source: each by computing its line. Assumes nothing.
 use mathlib.Core.Bool.{Bool, false}
 use mathlib.Core.Path.{_≡_, refl, ap}
-use borrow.Author.Tests.{le-leb, lt-leb}
+use borrow.Author.Tests.{eq-eqb, eqb-true, le-leb, lt-leb}
 use Rattle.digits.specs.Digits.{digits}
 use Rattle.frame.specs.Frame.{xorFrom, sumOf, ending}
+use Rattle.line.specs.Line.{CR, ends}
 use Rattle.line.specs.declared.Command.{Command}
 use Rattle.line.specs.declared.Command.the-variants.{B, C, D, G, H, Ka, Kb, Kc, Kd, K3, K4, N, P, «V», W, X, Y, Unknown}
 use Rattle.state.specs.declared.State.{State}
@@ -52,8 +53,13 @@ pub untouched : (s : Source) (state : State) (x : Sending) (checksum inhibit : B
 untouched s state x checksum inhibit = record { settings = refl; measurement = refl; film = refl; unit = refl; rate = refl; next-rate = refl }
 
 pub readings : (s : Source) → Readings s
-unfolding turned shown digits replies silent runs isN readies xorFrom sumOf ending
+unfolding ends turned shown digits replies silent runs isN readies xorFrom sumOf ending
 readings s = record {
+  ends-at-cr = λ l b. (λ e. eqb-true b CR e, λ e. eq-eqb b CR e);
+  start-ready = λ u. refl;
+  start-off = λ u. (refl, (refl, refl));
+  start-film = λ u. refl;
+  start-rate = λ u. (refl, refl);
   g-answers = refl;
   h-answers = refl;
   c-keeps = untouched s _ _ _ _;

@@ -74,8 +74,11 @@ fixedWith l f = record {
   version = f .version;
 }
 
+abbrev pub letteredWith : ℕ → Settings → Settings
+letteredWith l s = record { fixed = fixedWith l (s .fixed); maker = s .maker; «type_name» = s .«type_name»; blur = s .blur }
+
 abbrev pub letterNow : ℕ → Settings → Settings
-letterNow to s = record { fixed = fixedWith (turned to (s .fixed .letter)) (s .fixed); maker = s .maker; «type_name» = s .«type_name»; blur = s .blur }
+letterNow to s = letteredWith (turned to (s .fixed .letter)) s
 
 -- the display unit, and the start-up letter turned
 abbrev pub unitWith : ℕ → ℕ → Source → Source
@@ -91,36 +94,46 @@ recordNow s = recordIn (s .modes .unit) (s .measurement) (s .settings .fixed .se
 abbrev pub blurOf : ℕ → Settings → List ℕ
 blurOf n s = 48 ∷ 46 ∷ 48 ∷ decimal 3 (getD (s .blur) n 0)
 
+-- in this form; where continuous sending is off, as text
+unfoldable pub recordIs : Sending → Source → List ℕ
+recordIs sending.Off s = textForm .print (recordNow s)
+recordIs sending.Text s = textForm .print (recordNow s)
+recordIs sending.Packed s = packedForm .print (recordNow s)
+
 -- ---- a command acted on: the source after it, and its reply, [] where it has none
 
-pub record Done : Type 0 where
+pub record Outcome : Type 0 where
   pub source : Source
   pub reply : List ℕ
 
 -- replies are written under the modes after the command
-unfoldable pub replies : Source → List ℕ → Done
+unfoldable pub replies : Source → List ℕ → Outcome
 replies s body = record { source = s; reply = framed (s .modes .checksum) body }
 
-unfoldable pub silent : Source → Done
+unfoldable pub silent : Source → Outcome
 silent s = record { source = s; reply = [] }
 
+-- a film, and its blur circle behind the letter
+abbrev pub filmed : ℕ → ℕ → Source → Outcome
+filmed letter n s = replies (withModes s (filmNow n (s .modes))) (letter ∷ blurOf n (s .settings))
+
 -- in running, by the letters of the command
-unfoldable pub runs : Source → Command → Done
+unfoldable pub runs : Source → Command → Outcome
 runs s B = replies s (66 ∷ 32 ∷ s .settings .fixed .version)
 runs s C = replies (withModes s (sendingNow sending.Text (s .modes))) (33 ∷ [])
-runs s D = replies s (textForm .print (recordNow s))
+runs s D = replies s (recordIs sending.Text s)
 runs s G = replies (withModes s (checksumNow (s .modes))) (33 ∷ [])
 runs s H = replies (withModes s (quietNow (s .modes))) (33 ∷ [])
 runs s Ka = replies (withModes s (inhibitNow (s .modes))) (33 ∷ [])
 runs s (Kb n) = replies (withModes s (rateNext n (s .modes))) (75 ∷ 98 ∷ (48 + n) ∷ 33 ∷ [])
 runs s Kc = replies (withModes s (sendingNow sending.Packed (s .modes))) (33 ∷ [])
-runs s Kd = replies s (packedForm .print (recordNow s))
+runs s Kd = replies s (recordIs sending.Packed s)
 runs s K3 = replies s (75 ∷ 51 ∷ s .settings .maker)
 runs s K4 = replies s (75 ∷ 52 ∷ s .settings .«type_name»)
 runs s N = replies s (fixedForm .print (s .settings .fixed))
 runs s P = replies s (80 ∷ degrees (s .measurement .temperature))
-runs s «V» = replies (withModes s (filmNow 0 (s .modes))) (86 ∷ blurOf 0 (s .settings))
-runs s (W n) = replies (withModes s (filmNow n (s .modes))) (87 ∷ blurOf n (s .settings))
+runs s «V» = filmed 86 0 s
+runs s (W n) = filmed 87 n s
 runs s X = replies (unitWith 73 66 s) (88 ∷ [])
 runs s Y = replies (unitWith 77 98 s) (89 ∷ [])
 runs s Unknown = cond (s .modes .inhibit) (silent s) (replies s (63 ∷ []))
@@ -146,31 +159,30 @@ isN X = false
 isN Y = false
 isN Unknown = false
 
-unfoldable pub readies : Source → Command → Done
-readies s c = cond (isN c) (replies (withModes s (runningNow (s .modes))) (fixedForm .print (s .settings .fixed))) (replies s (60 ∷ []))
+abbrev pub wakes : Source → Outcome
+wakes s = replies (withModes s (runningNow (s .modes))) (fixedForm .print (s .settings .fixed))
 
-unfoldable pub doesIn : State → Source → Command → Done
-doesIn Ready s c = readies s c
-doesIn Running s c = runs s c
+unfoldable pub readies : Source → Command → Outcome
+readies s c = cond (isN c) (wakes s) (replies s (60 ∷ []))
+
+-- the decision, by the state, on the whole line
+unfoldable pub doesIn : State → Source → Line → Outcome
+doesIn Ready s l = readies s (commandOf l)
+doesIn Running s l = runs s (commandOf l)
 
 -- the line that waited, acted on
-unfoldable pub does : Source → Line → Done
-does s l = doesIn (s .modes .state) s (commandOf l)
+unfoldable pub does : Source → Line → Outcome
+does s l = doesIn (s .modes .state) s l
 
 -- how its reply counts once it is sent: < as neither
-unfoldable pub countsIn : State → Command → Bool
-countsIn Ready c = isN c
-countsIn Running c = true
+unfoldable pub countsIn : State → Line → Bool
+countsIn Ready l = isN (commandOf l)
+countsIn Running l = true
 
 unfoldable pub counts : Source → Line → Bool
-counts s l = countsIn (s .modes .state) (commandOf l)
+counts s l = countsIn (s .modes .state) l
 
 -- ---- a record that continuous sending starts
-
-unfoldable pub recordIs : Sending → Source → List ℕ
-recordIs sending.Off s = textForm .print (recordNow s)
-recordIs sending.Text s = textForm .print (recordNow s)
-recordIs sending.Packed s = packedForm .print (recordNow s)
 
 unfoldable pub recordMessage : Source → List ℕ
 recordMessage s = framed (s .modes .checksum) (recordIs (s .modes .sending) s)

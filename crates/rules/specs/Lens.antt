@@ -1,22 +1,37 @@
 -- The lens as an instance of the paper's machine, and what always holds of it.
-use Prim.Native.Nat.{ℕ}
+use Prim.Native.Nat.{ℕ, _+_}
 use mathlib.Core.Bool.{true, false, cond}
 use mathlib.Core.List.{List, [], _∷_}
 use mathlib.Core.Path.{_≡_}
 use lib.Dec.{leb}
+use Rattle.frame.specs.Frame.{endingWidth}
+use Rattle.record.specs.Forms.{textLength}
 use Rattle.machine.specs.Machine.{Rules}
 use Rattle.units.specs.declared.Measurement.{Measurement}
 use Rattle.units.specs.Measurement.{measurementVerdict}
 use Rattle.line.specs.declared.Line.{Line}
-use Rattle.line.specs.Line.{blank, joined}
+use Rattle.line.specs.Line.{blank, ends, joined}
 use Rattle.state.specs.declared.Source.{Source}
 use Rattle.state.specs.declared.State.the-variants.{Ready}
+use Rattle.state.specs.declared.Sending.the-variants.{Off}
+use Rattle.state.specs.declared.Modes.{Modes}
 use Rattle.state.specs.State.{isDone, validSource}
 use Rattle.rules.specs.Does.{withModes, rateMoved, does, counts, continuous, recordMessage}
+
+-- what is handed to the port between slots
+pub data Given : Type 0 where
+  measurement : Measurement → Given
 
 -- a new measurement, where it is in range
 unfoldable pub measured : Source → Measurement → Source
 measured s m = cond (isDone (measurementVerdict m)) (record { settings = s .settings; measurement = m; modes = s .modes }) s
+
+abbrev pub updated : Source → Given → Source
+updated s (measurement m) = measured s m
+
+-- what a start sets: ready, all modes off, film 00, rate number 6, this unit
+abbrev pub startModes : ℕ → Modes
+startModes unit = record { state = Ready; sending = Off; checksum = false; inhibit = false; film = 0; unit = unit; rate = 6; «next_rate» = 6 }
 
 -- `<` LF CR
 abbrev pub greeting : List ℕ
@@ -26,11 +41,12 @@ greeting = 60 ∷ 10 ∷ 13 ∷ []
 abbrev pub lens : Rules
 lens = record {
   Modes = Source;
-  Measurement = Measurement;
+  Given = Given;
   Line = Line;
   Command = Line;
   blank = blank;
   join = joined;
+  ends = ends;
   read = λ l. l;
   continuous = continuous;
   recordOf = recordMessage;
@@ -38,7 +54,7 @@ lens = record {
   replyTo = λ s l. does s l .reply;
   counts = counts;
   ended = λ s. withModes s (rateMoved (s .modes));
-  update = measured;
+  update = updated;
   greeting = greeting;
 }
 
@@ -47,12 +63,12 @@ pub record Good (s : Source) : Type 0 where
   pub valid : validSource s ≡ true
   pub ready-off : s .modes .state ≡ Ready → continuous s ≡ false
 
--- no reply, no record, no message is longer
+-- no reply, no record, no message is longer: the text record, with a checksum
 abbrev pub longestReply : ℕ
-longestReply = 78
+longestReply = textLength + endingWidth true
 
 abbrev pub longestRecord : ℕ
-longestRecord = 78
+longestRecord = textLength + endingWidth true
 
 abbrev pub longestMessage : ℕ
 longestMessage = cond (leb longestReply longestRecord) longestRecord longestReply

@@ -2,19 +2,21 @@
 use Prim.Native.Nat.{ℕ, _≤_, _<_}
 use mathlib.Core.Bool.{true, false}
 use mathlib.Core.List.{[], _∷_}
+use mathlib.Core.Logic.{_↔_}
 use mathlib.Core.Path.{_≡_}
 use lib.IntN.{pos, negsuc}
 use Rattle.digits.specs.Digits.{decimal}
 use Rattle.frame.specs.Frame.{framed}
 use Rattle.fixed.specs.Form.{fixedForm}
+use Rattle.line.specs.declared.Line.{Line}
 use Rattle.line.specs.declared.Command.{Command}
 use Rattle.line.specs.declared.Command.the-variants.{C, G, H, Ka, Kb, Kc, N, «V», W, X, Y, Unknown}
-use Rattle.state.specs.declared.State.the-variants.{Running}
+use Rattle.state.specs.declared.State.the-variants.{Ready, Running}
 use Rattle.state.specs.declared.Sending.the-variants as sending
 use Rattle.state.specs.declared.Source.{Source}
 use Rattle.units.specs.Measurement.{degrees}
 use Rattle.rules.specs.Does.{runs, readies}
-use Rattle.rules.specs.Lens.{lens}
+use Rattle.rules.specs.Lens.{startModes, lens}
 
 -- what no switch touches
 pub record Untouched (s t : Source) : Type 0 where
@@ -32,6 +34,13 @@ pub record Quiet (t : Source) : Type 0 where
   pub inhibit : t .modes .inhibit ≡ false
 
 pub record Readings (s : Source) : Type 0 where
+  -- a carriage return ends a line, and no other byte does
+  pub ends-at-cr : (l : Line) (b : ℕ) → (lens .ends l b ≡ true) ↔ (b ≡ 13)
+  -- a start leaves it ready, all modes off, film 00, rate number 6
+  pub start-ready : (u : ℕ) → startModes u .state ≡ Ready
+  pub start-off : (u : ℕ) → (startModes u .sending ≡ sending.Off) × ((startModes u .checksum ≡ false) × (startModes u .inhibit ≡ false))
+  pub start-film : (u : ℕ) → startModes u .film ≡ 0
+  pub start-rate : (u : ℕ) → (startModes u .rate ≡ 6) × (startModes u .«next_rate» ≡ 6)
   -- replies are written under the modes after the command, the checksum not over LF CR: G answers !MN, H plain !
   pub g-answers : runs s G .reply ≡ 33 ∷ 77 ∷ 78 ∷ 10 ∷ 13 ∷ []
   pub h-answers : runs s H .reply ≡ 33 ∷ 10 ∷ 13 ∷ []

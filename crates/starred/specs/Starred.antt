@@ -2,11 +2,10 @@
 use Prim.Native.Nat.{ℕ}
 use mathlib.Core.List.{List, [], _∷_}
 use mathlib.Core.Path.{_≡_}
-use lib.IntN.{ℤ, pos, negsuc}
-use Rattle.refusal.specs.Answer.{Answer, accepted}
+use lib.IntN.{pos, negsuc}
+use Rattle.refusal.specs.Answer.{accepted}
 use Rattle.digits.specs.Digits.{groups}
 use Rattle.frame.specs.Frame.{sumOf}
-use Rattle.frame.specs.declared.Sum.{Sum}
 use Rattle.stop.specs.Stop.{pair}
 use Rattle.pupil.specs.Pupil.{pupilPacked}
 use Rattle.record.specs.Forms.{textForm, packedForm}

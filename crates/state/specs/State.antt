@@ -1,6 +1,6 @@
 -- What a handed-in part of the state must be: no count past its buffer or message, every number, letter and text byte in its range.
 use Prim.Native.Nat.{ℕ}
-use mathlib.Core.Bool.{Bool, true, false, _&&_, _||_}
+use mathlib.Core.Bool.{Bool, true, false, _&&_}
 use mathlib.Core.List.{List}
 use lib.Dec.{leb, eqb}
 use lib.ListN.{length, replicate}
@@ -22,8 +22,8 @@ unfoldable pub zeros : List ℕ
 zeros = replicate messageLength 0
 
 -- a message about to be sent: its bytes in a fresh buffer of zeros
-abbrev pub messageOf : List ℕ → Message
-messageOf xs = record { bytes = over zeros 0 xs; len = length xs; at = 0 }
+abbrev pub unsent : List ℕ → Message
+unsent xs = record { bytes = over zeros 0 xs; len = length xs; at = 0 }
 
 unfoldable pub validModes : Modes → Bool
 validModes m = leb (m .film) 31 && (isUnit (m .unit) && (leb (m .rate) 7 && leb (m .«next_rate») 7))

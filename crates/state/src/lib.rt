@@ -98,5 +98,5 @@ pub fn valid_source(s: Source) -> bool
         return false;
     }
     let settings = s.settings;
-    fixed::lowest_setting(settings) == 0
+    fixed::are_settings(settings)
 }

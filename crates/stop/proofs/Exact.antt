@@ -1,5 +1,5 @@
 -- The stop as text, and the shared pair, are exact fields: what is written of a stop in range reads back, and nothing else reads. Assumes nothing.
-use Prim.Native.Nat.{ℕ, _+_, _-_, _*_, _/_, _%_, _≤_, _<_}
+use Prim.Native.Nat.{ℕ, _+_, _*_, _/_, _%_, _≤_, _<_}
 use mathlib.Core.List.{List, [], _∷_, _++_}
 use mathlib.Core.Bool.{Bool, true, false, _&&_}
 use mathlib.Core.Path.{_≡_, refl, sym, ap, ap₂, _∙_}
@@ -7,7 +7,8 @@ use native.Mathlib.Omega.{arith}
 use borrow.Author.Tests.{ltb-true, ltb-false, leb-true, eqb-true, lt-ltb, le-ltb, le-leb, eq-eqb, ne-eqb}
 use lib.Dec.{ltb, leb, eqb}
 use lib.ListN.{length, take, getD, length-take}
-use Rattle.laws.proofs.Tests.{and-left, and-right, cond-no, told}
+use Rattle.laws.proofs.Tests.{and-left, and-right, cond-no, told, never}
+use Rattle.laws.proofs.ListLaws.{two-is}
 use Rattle.digits.specs.Digits.{digits, only, decimal, readDecimal}
 use Rattle.digits.specs.declared.Field.{Field}
 use Rattle.digits.specs.declared.Field.the-variants.{Value, Wrong}
@@ -41,7 +42,7 @@ stop-top s h =
 
 only-is : (t : Bool) (a n : ℕ) → only t a ≡ Value n → (t ≡ true) × (a ≡ n)
 only-is true a n e = (refl, cc)
-only-is false a n e = absurd (let z : _≡_ {A = ℕ} 0 1 = cc in omega arith)
+only-is false a n e = never (cc)
 
 -- ---- as text
 
@@ -96,7 +97,7 @@ unfolding readTens
 tens-is (Value m) n e =
     let k = only-is (leb 10 m) (m * 10) n e in
     (m, refl, leb-true _ _ (k .0), k .1)
-tens-is Wrong n e = absurd (let z : _≡_ {A = ℕ} 0 1 = cc in omega arith)
+tens-is Wrong n e = never (cc)
 
 three-is : (s : List ℕ) → length s ≡ 3 → s ≡ take 2 s ++ (getD s 2 0 ∷ [])
 three-is [] l = absurd (omega arith)
@@ -130,7 +131,7 @@ stop-sound s n l e =
     (λ w.
     told (eqb (getD s 2 0) point)
     (λ y. high-sound s n l (eqb-true _ _ y) (rw (eq-eqb (length s) 3 l, w, y) at e))
-    (λ v. absurd (let z : Wrong ≡ Value n = rw (eq-eqb (length s) 3 l, w, v) at e in let y : _≡_ {A = ℕ} 0 1 = cc in omega arith)))
+    (λ v. let z : Wrong ≡ Value n = rw (eq-eqb (length s) 3 l, w, v) at e in never (cc)))
 
 pub stop-exact : Exact stop
 unfolding stop fieldSays
@@ -160,12 +161,6 @@ unfolding stop
 stop-read s = refl
 
 -- ---- packed
-
-two-is : (s : List ℕ) → length s ≡ 2 → s ≡ getD s 0 0 ∷ getD s 1 0 ∷ []
-two-is [] l = absurd (omega arith)
-two-is (a ∷ []) l = absurd (omega arith)
-two-is (a ∷ b ∷ []) l = refl
-two-is (a ∷ b ∷ c ∷ s) l = absurd (omega arith)
 
 -- the two bytes of a stop and a tenth, read back
 module _ (s t : ℕ) (h : stopOk s ≡ true) (k : t ≤ 9) where

@@ -24,7 +24,7 @@ pub fn put_stop_text(out: &mut [u8], at: usize, stop: u32)
         return;
     }
     digits::put_decimal(out, at, 2, stop / 10);
-    lent::put_byte(out, at + 2, 46);
+    lent::put_byte(out, at + 2, b'.');
 }
 
 // Reads the three characters of a stop; where the point stands tells the form.
@@ -34,10 +34,10 @@ pub fn read_stop_text(s: &[u8]) -> Field
     if s.len() != 3 {
         return Field::Wrong;
     }
-    if s[1] == 46 {
+    if s[1] == b'.' {
         return pointed::read_pointed(s, 99);
     }
-    if s[2] != 46 {
+    if s[2] != b'.' {
         return Field::Wrong;
     }
     let Field::Value(n) = digits::read_decimal(&s[..2], 25) else {

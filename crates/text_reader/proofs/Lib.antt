@@ -1,3 +1,2 @@
-pub mod Chains
 pub mod Parts
 pub mod Unique

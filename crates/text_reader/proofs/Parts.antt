@@ -1,92 +1,80 @@
--- What the parsers of the text form find in the parts of a message, by groups and of a whole record. Assumes nothing.
-use Prim.Native.Nat.{ℕ, _≤_}
-use mathlib.Core.Bool.{true, false}
+-- The text form's groups, in terms of the parts that the code reads. Assumes nothing.
+use Prim.Native.Nat.{ℕ}
 use mathlib.Core.List.{List}
-use mathlib.Core.Path.{_≡_, refl, sym, ap, _∙_}
+use mathlib.Core.Path.{_≡_, refl}
 use native.Mathlib.Omega.{arith}
-use lib.ListN.{length, take, drop, getD, length-take, length-drop}
-use lib.Seq.{take-take}
-use Rattle.laws.proofs.ListLaws.{drop-of-take}
-use Rattle.codec.specs.Codec.{got, bad, passed, both, mapped}
-use Rattle.pointed.specs.Pointed.{pointed}
-use Rattle.stop.specs.Stop.{stop}
+use lib.ListN.{length, take, drop, length-take, length-drop}
+use lib.Seq.{drop-drop, length-take-le}
+use Rattle.laws.proofs.ListLaws.{last-part}
+use Rattle.digits.specs.Digits.{readDecimal}
+use Rattle.codec.specs.Codec.{both, fieldSays, readTagged}
+use Rattle.codec.proofs.Fields.{tagged-says, tagged-number}
+use Rattle.pointed.specs.Pointed.{pointed, readPointed}
+use Rattle.pointed.proofs.Exact.{pointed-read}
+use Rattle.stop.specs.Stop.{stop, readStopText}
+use Rattle.stop.proofs.Exact.{stop-read}
 use Rattle.pupil.specs.Pupil.{pupilText, readPupilText, pupilSays}
-use Rattle.pupil.specs.declared.Signed.{Signed}
-use Rattle.pupil.proofs.Exact.{text-read}
-use Rattle.record.specs.Forms.{frontText, middleText, backText, serial, textForm, figuresOf}
+use Rattle.pupil.proofs.Exact.{text-read, text-width}
+use Rattle.record.specs.Forms.{frontText, middleText, backText}
 use Rattle.record.specs.Record.{topDistance}
-use Rattle.record.specs.declared.Figures.{Figures}
-use Rattle.serial.specs.Serial.{isSerial, nineOf}
-use Rattle.serial.proofs.Field.{serial-at, nine-is}
-use Rattle.gather.proofs.Laws.{wrong-first, wrong-later, right-both, mapped-wrong, mapped-right, made, remade}
-use Rattle.text_reader.specs.Text.{stopTagged, viewTagged, readFigures}
-use Rattle.text_reader.proofs.Chains.{numbered, three-parts, four-parts}
 
-front-width : frontText .width ≡ 19
+pub front-width : frontText .width ≡ 19
 unfolding frontText stop
 front-width = refl
 
-middle-width : middleText .width ≡ 29
+pub middle-width : middleText .width ≡ 29
 unfolding middleText
 middle-width = refl
 
-back-width : backText .width ≡ 16
+pub back-width : backText .width ≡ 16
 unfolding backText pointed pupilText
 back-width = refl
 
-pub front-parts : (s : List ℕ) → length s ≡ 19 →
-    frontText .parse s ≡ both (numbered 68 1 7 topDistance .parse (take 8 s))
-    (both (numbered 84 2 4 4095 .parse (take 5 (drop 8 s)))
-    (both (stopTagged .parse (take 4 (drop 13 s)))
-    (numbered 43 4 1 9 .parse (take 2 (drop 17 s)))))
-unfolding frontText stop
-front-parts s l = four-parts (numbered 68 1 7 topDistance) (numbered 84 2 4 4095) stopTagged (numbered 43 4 1 9) s l
+module _ (s : List ℕ) where
+  pub front-parts : length s ≡ 19 → frontText .parse s ≡
+      both (fieldSays 1 (readTagged 68 (readDecimal topDistance) (take 8 s)))
+      (both (fieldSays 2 (readTagged 84 (readDecimal 4095) (take 5 (drop 8 s))))
+      (both (fieldSays 3 (readTagged 116 readStopText (take 4 (drop 13 s)))) (fieldSays 4 (readTagged 43 (readDecimal 9) (take 2 (drop 17 s))))))
+  unfolding frontText stop
+  front-parts l =
+      rw (
+        drop-drop 5 8 s,
+        drop-drop 4 13 s,
+        last-part 17 2 s l,
+        tagged-number 68 1 10 48 7 topDistance (take 8 s),
+        tagged-number 84 2 10 48 4 4095 (take 5 (drop 8 s)),
+        tagged-says 116 readStopText 3 stop (take 4 (drop 13 s)) (stop-read (drop 1 (take 4 (drop 13 s)))),
+        tagged-number 43 4 10 48 1 9 (drop 17 s),
+      )
 
-pub middle-parts : (s : List ℕ) → length s ≡ 29 →
-    middleText .parse s ≡ both (numbered 90 5 4 1023 .parse (take 5 s))
-    (both (numbered 72 6 7 topDistance .parse (take 8 (drop 5 s)))
-    (both (numbered 78 7 7 topDistance .parse (take 8 (drop 13 s)))
-    (numbered 70 8 7 topDistance .parse (take 8 (drop 21 s)))))
-unfolding middleText
-middle-parts s l = four-parts (numbered 90 5 4 1023) (numbered 72 6 7 topDistance) (numbered 78 7 7 topDistance) (numbered 70 8 7 topDistance) s l
+  pub middle-parts : length s ≡ 29 → middleText .parse s ≡
+      both (fieldSays 5 (readTagged 90 (readDecimal 1023) (take 5 s)))
+      (both (fieldSays 6 (readTagged 72 (readDecimal topDistance) (take 8 (drop 5 s))))
+      (both (fieldSays 7 (readTagged 78 (readDecimal topDistance) (take 8 (drop 13 s)))) (fieldSays 8 (readTagged 70 (readDecimal topDistance) (take 8 (drop 21 s))))))
+  unfolding middleText
+  middle-parts l =
+      rw (
+        drop-drop 8 5 s,
+        drop-drop 8 13 s,
+        last-part 21 8 s l,
+        tagged-number 90 5 10 48 4 1023 (take 5 s),
+        tagged-number 72 6 10 48 7 topDistance (take 8 (drop 5 s)),
+        tagged-number 78 7 10 48 7 topDistance (take 8 (drop 13 s)),
+        tagged-number 70 8 10 48 7 topDistance (drop 21 s),
+      )
 
-pub back-parts : (s : List ℕ) → length s ≡ 16 →
-    backText .parse s ≡ both (viewTagged .parse (take 6 s))
-    (both (pupilText .parse (take 5 (drop 6 s)))
-    (numbered 122 11 4 1000 .parse (take 5 (drop 11 s))))
-unfolding backText pointed pupilText
-back-parts s l = three-parts viewTagged pupilText (numbered 122 11 4 1000) s l
-
-pub figures-parts : (s : List ℕ) → length s ≡ 64 →
-    readFigures s ≡ mapped figuresOf (both (frontText .parse (take 19 s))
-    (both (middleText .parse (take 29 (drop 19 s)))
-    (backText .parse (take 16 (drop 48 s)))))
-figures-parts s l =
-    ap (mapped figuresOf) (three-parts frontText middleText backText s (rw (front-width, middle-width, back-width) l) ∙ rw (front-width, middle-width, back-width))
-
-pub pupil-says : (s : List ℕ) → length s ≡ 5 → {f : Signed} → f ≡ readPupilText s → pupilSays f ≡ pupilText .parse s
-pupil-says s l e = ap pupilSays e ∙ text-read s l
-
--- ---- a whole record
-
-module _ (m : List ℕ) (h : 74 ≤ length m) where
-  record-parts : textForm .parse (take 74 m) ≡ mapped made (both (readFigures (take 64 m)) (serial .parse (take 10 (drop 64 m))))
-  unfolding textForm
-  record-parts =
-      rw (front-width, middle-width, back-width, take-take 64 74 m (omega arith), drop-of-take 64 10 m (omega arith))
-      (remade _ (serial .parse (take 10 (drop 64 m))))
-
-  pub figures-wrong : (i : ℕ) → readFigures (take 64 m) ≡ bad i → textForm .parse (take 74 m) ≡ bad i
-  figures-wrong i e = record-parts ∙ mapped-wrong made (wrong-first _ e)
-
-  module _ (f : Figures) (e : readFigures (take 64 m) ≡ got f) where
-    pub serial-wrong : isSerial (getD m 64 0) (take 9 (drop 65 m)) ≡ false → textForm .parse (take 74 m) ≡ bad 12
-    unfolding passed
-    serial-wrong n = record-parts ∙ mapped-wrong made (wrong-later e (serial-at m 64 (omega arith) ∙ rw n))
-
-    pub record-found : (s : List ℕ) → isSerial (getD m 64 0) (take 9 (drop 65 m)) ≡ true → s ≡ nineOf (take 9 (drop 65 m)) →
-        textForm .parse (take 74 m) ≡ got (record { figures = f; serial = s })
-    unfolding passed
-    record-found s y n =
-        let same : s ≡ take 9 (drop 65 m) = n ∙ nine-is (take 9 (drop 65 m)) (simp (length-take, length-drop) (omega arith)) in
-        record-parts ∙ mapped-right made (right-both e (serial-at m 64 (omega arith) ∙ rw y (ap got (sym same))))
+  pub back-parts : length s ≡ 16 → backText .parse s ≡
+      both (fieldSays 9 (readTagged 86 (readPointed 4095) (take 6 s)))
+      (both (pupilSays (readPupilText (take 5 (drop 6 s)))) (fieldSays 11 (readTagged 122 (readDecimal 1000) (take 5 (drop 11 s)))))
+  unfolding backText pointed
+  back-parts l =
+      let view : length (drop 1 (take 6 s)) ≡ 5 = simp (length-drop, length-take) (omega arith) in
+      let pupil : length (take 5 (drop 6 s)) ≡ 5 = length-take-le 5 (drop 6 s) (simp length-drop (omega arith)) in
+      rw (
+        text-width,
+        drop-drop 5 6 s,
+        last-part 11 5 s l,
+        tagged-says 86 (readPointed 4095) 9 (pointed 9 3 4095) (take 6 s) (pointed-read 9 3 4095 (drop 1 (take 6 s)) view),
+        text-read (take 5 (drop 6 s)) pupil,
+        tagged-number 122 11 10 48 4 1000 (drop 11 s),
+      )

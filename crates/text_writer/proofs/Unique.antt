@@ -3,11 +3,10 @@ use Prim.Native.Nat.{ℕ}
 use mathlib.Core.Bool.{Bool}
 use mathlib.Core.List.{List}
 use mathlib.Core.Path.{_≡_}
-use Rattle.laws.specs.Gives.{Gives}
 use Rattle.laws.specs.Over.{over}
 use Rattle.laws.proofs.OneAnswer.{one-answer, one-outcome}
 use Rattle.refusal.specs.declared.Refusal.the-variants.{Field}
-use Rattle.frame.specs.Message.{writeOf, wroteOf, leftBy}
+use Rattle.frame.specs.Message.{WritesMessage}
 use Rattle.frame.specs.declared.Wrote.{Wrote}
 use Rattle.record.specs.Forms.{textForm}
 use Rattle.record.specs.declared.Record.{Record}
@@ -17,7 +16,7 @@ pub one-put-text-record : (out : List ℕ) (r : Record) {after after′ : List �
 one-put-text-record out r = one-answer
 
 pub one-write-text : (r : Record) (checksum : Bool) (out : List ℕ) {w w′ : Wrote} {after after′ : List ℕ} →
-    Gives (wroteOf (writeOf textForm Field checksum r out)) (leftBy textForm checksum r out) w after →
-    Gives (wroteOf (writeOf textForm Field checksum r out)) (leftBy textForm checksum r out) w′ after′ →
+    WritesMessage textForm Field checksum r out w after →
+    WritesMessage textForm Field checksum r out w′ after′ →
     (w ≡ w′) × (after ≡ after′)
 one-write-text r checksum out = one-outcome

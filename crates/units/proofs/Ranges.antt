@@ -8,16 +8,15 @@ use native.Mathlib.Omega.{arith}
 use borrow.Author.Tests.{leb-true, le-leb, eqb-true, eq-eqb, ne-eqb, not-true}
 use lib.Dec.{leb, eqb}
 use lib.IntN.{ℤ}
-use lib.ListN.{length}
-use Rattle.laws.proofs.Tests.{told, and-left, and-right}
+use Rattle.laws.proofs.Tests.{told, and-left, and-right, never}
 use Rattle.sign.specs.Sign.{size, below0}
 use Rattle.refusal.specs.declared.Verdict.the-variants.{Done, Refused}
 use Rattle.refusal.specs.declared.Refusal.{Refusal}
-use Rattle.codec.specs.Codec.{failing, first, printable}
+use Rattle.codec.specs.Codec.{failing, first, textOk}
 use Rattle.codec.proofs.Exact.{holds, fine, first-zero, zero-first}
 use Rattle.record.specs.Record.{topDistance, topPupil, frontLowest, middleLowest, backLowest, figuresLowest, recordLowest}
 use Rattle.record.specs.declared.Figures.{Figures}
-use Rattle.units.specs.Units.{isUnit, byUnit, topIn, mostIn, sizeIn, numberIn, isDistance, inRange, Distance}
+use Rattle.units.specs.Units.{isUnit, byUnit, inchDistance, inchPupil, topIn, mostIn, sizeIn, numberIn, isDistance, inRange, Distance}
 use Rattle.units.specs.Measurement.{measurementLowest, measurementVerdict, figuresIn, recordIn}
 use Rattle.units.specs.declared.Measurement.{Measurement}
 use Rattle.units.proofs.Nearest.{either, size-signed}
@@ -36,10 +35,10 @@ unfolding byUnit
 by-unit-bound u inch mm h = told (eqb u 73) (λ e. rw e h) (λ e. rw e (omega arith))
 
 pub top-bound : (u : ℕ) → topIn u ≤ topDistance
-top-bound u = by-unit-bound u 3937007 topDistance (omega arith)
+top-bound u = by-unit-bound u inchDistance topDistance (omega arith)
 
 pub most-bound : (u : ℕ) → mostIn u ≤ topPupil
-most-bound u = by-unit-bound u 393 topPupil (omega arith)
+most-bound u = by-unit-bound u inchPupil topPupil (omega arith)
 
 -- in the range of one unit, and converted, in the range of the other: inch and mm are where the two end
 stays : (n inch mm unit wanted : ℕ) → (254 * inch + 50) / 100 ≤ mm → (100 * mm + 127) / 254 ≤ inch → isUnit unit ≡ true → isUnit wanted ≡ true →
@@ -121,8 +120,8 @@ module _ (unit wanted top most top′ most′ : ℕ) (distance : (n : ℕ) → n
 
 done-told : (b c : Bool) (x y : Refusal) → cond b (cond c Done (Refused x)) (Refused y) ≡ Done → (b ≡ true) × (c ≡ true)
 done-told true true x y e = (refl, refl)
-done-told true false x y e = absurd (let z : _≡_ {A = ℕ} 0 1 = cc in omega arith)
-done-told false c x y e = absurd (let z : _≡_ {A = ℕ} 0 1 = cc in omega arith)
+done-told true false x y e = never (cc)
+done-told false c x y e = never (cc)
 
 -- what is known of a measurement that is accepted
 pub record Accepted (m : Measurement) : Type 0 where
@@ -136,7 +135,7 @@ accepted-told m h =
     record { letter = p .0; figures = first-zero _ _ (eqb-true (measurementLowest m) 0 (p .1)) .0 }
 
 pub sendable-in-either-unit : (m : Measurement) (display : ℕ) (serial : List ℕ) →
-    measurementVerdict m ≡ Done → isUnit display ≡ true → (eqb (length serial) 9 && printable serial) ≡ true →
+    measurementVerdict m ≡ Done → isUnit display ≡ true → textOk 9 serial ≡ true →
     recordLowest (recordIn display m serial) ≡ 0
 unfolding recordLowest recordIn
 sendable-in-either-unit m display serial done d s =
@@ -144,7 +143,7 @@ sendable-in-either-unit m display serial done d s =
     let unit = m .unit in
     zero-first _ _
     (figures-stay unit display (topIn unit) (mostIn unit) topDistance topPupil
-    (λ n h. le-trans (stays n 3937007 topDistance unit display (omega arith) (omega arith) (a .letter) d h) (top-bound display))
-    (λ n h. le-trans (stays n 393 topPupil unit display (omega arith) (omega arith) (a .letter) d h) (most-bound display))
+    (λ n h. le-trans (stays n inchDistance topDistance unit display (omega arith) (omega arith) (a .letter) d h) (top-bound display))
+    (λ n h. le-trans (stays n inchPupil topPupil unit display (omega arith) (omega arith) (a .letter) d h) (most-bound display))
     (m .figures) (a .figures))
     (fine _ 12 s)

@@ -23,13 +23,20 @@ byUnit u inch mm = cond (eqb u 73) inch mm
 abbrev pub hundredths : ℕ → ℕ
 hundredths u = byUnit u 254 100
 
+-- how far a distance and the pupil reach in 0.1 inch
+abbrev pub inchDistance : ℕ
+inchDistance = 3937007
+
+abbrev pub inchPupil : ℕ
+inchPupil = 393
+
 -- how far a distance reaches
 abbrev pub topIn : ℕ → ℕ
-topIn u = byUnit u 3937007 topDistance
+topIn u = byUnit u inchDistance topDistance
 
 -- how far the pupil reaches from zero
 abbrev pub mostIn : ℕ → ℕ
-mostIn u = byUnit u 393 topPupil
+mostIn u = byUnit u inchPupil topPupil
 
 -- ---- nearest whole number, halves away from zero
 

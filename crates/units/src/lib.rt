@@ -6,6 +6,8 @@ use refusal::Refusal;
 use refusal::Verdict;
 ghost use mathlib.Core.Path.{_≡_};
 ghost use Prim.Native.Nat.{_≤_};
+ghost use Rattle.refusal.specs.Answer.{accepted, unless};
+ghost use Rattle.refusal.specs.declared.Refusal.the-variants.{Field};
 ghost use Rattle.refusal.specs.declared.Verdict.the-variants.{Done};
 ghost use Rattle.sign.specs.Sign.{size};
 ghost use Rattle.record.specs.Record.{topDistance, topPupil, figuresLowest};
@@ -112,13 +114,10 @@ fn in_range(field: u32, number: i32, unit: u8) -> bool
     sign::size_of(number) <= top_in(unit)
 }
 
-// A number of a field in the wanted unit.
-pub fn convert(field: u32, number: i32, unit: u8, wanted: u8) -> Converted
-    ensures { λ r. ⌜ r ≡ convertedOf (conversion field number unit wanted) ⌝ }
+// A number of a field, where the letters are right. (Called with a letter that is known: each unit has its own code.)
+fn convert_from(field: u32, number: i32, unit: u8, wanted: u8) -> Converted
+    ensures { λ r. ⌜ r ≡ convertedOf (unless (inRange field number unit) (Field field) (accepted (numberIn unit wanted number))) ⌝ }
 {
-    if !(is_unit(unit) & is_unit(wanted)) {
-        return Converted::Refused(Refusal::Field(0));
-    }
     if !in_range(field, number, unit) {
         return Converted::Refused(Refusal::Field(field));
     }
@@ -126,6 +125,20 @@ pub fn convert(field: u32, number: i32, unit: u8, wanted: u8) -> Converted
         return Converted::Value(pupil_in(unit, wanted, number));
     }
     Converted::Value(distance_in(unit, wanted, number))
+}
+
+// A number of a field in the wanted unit.
+pub fn convert(field: u32, number: i32, unit: u8, wanted: u8) -> Converted
+    ensures { λ r. ⌜ r ≡ convertedOf (conversion field number unit wanted) ⌝ }
+{
+    if !is_unit(wanted) {
+        return Converted::Refused(Refusal::Field(0));
+    }
+    match unit {
+        b'I' => convert_from(field, number, b'I', wanted),
+        b'M' => convert_from(field, number, b'M', wanted),
+        _ => Converted::Refused(Refusal::Field(0)),
+    }
 }
 
 // ---- the measurement

@@ -1,44 +1,39 @@
 -- Every sequence of calls is a run of the machine: call by call, a fill by its slots. Assumes nothing.
 use Prim.Native.Nat.{ℕ, zero, suc}
-use mathlib.Core.Bool.{Bool, true, false, _&&_, cond}
-use mathlib.Core.List.{List, [], _∷_, _++_, append-assoc, append-nil}
-use mathlib.Core.Option.{Option, none, some}
+use mathlib.Core.Bool.{true, _&&_}
+use mathlib.Core.List.{List, [], _∷_, _++_, append-nil}
+use mathlib.Core.Option.{none, some}
 use mathlib.Core.Path.{_≡_, refl, sym, ap, ap₂, subst, _∙_}
-use native.Mathlib.Omega.{arith}
-use lib.Dec.{eqb}
 use lib.ListN.{length, replicate}
 use Rattle.laws.proofs.OverLaws.{length-over}
-use Rattle.laws.proofs.Tests.{cond-yes, told}
-use Rattle.machine.specs.Machine.{State, port, Out, onByte, onReturn, onOther, onMeasured, Event, Events, received, slot, measured, next, shows, run, seen, sent, sentIn, start}
-use Rattle.machine.specs.Promised.{Promised}
+use Rattle.laws.proofs.Tests.{cond-yes, by}
+use Rattle.machine.specs.Machine.{State, port, Out, onByte, onReturn, onOther, onGiven, Events, received, slot, given, next, shows, run, sent, sentIn, start}
 use Rattle.machine.proofs.Use.{run-append, seen-append}
-use Rattle.refusal.specs.declared.Verdict.{Verdict}
-use Rattle.refusal.specs.declared.Verdict.the-variants.{Done, Refused}
-use Rattle.fixed.specs.Fixed.{settingsLowest}
+use Rattle.refusal.specs.declared.Verdict.the-variants.{Done}
 use Rattle.fixed.specs.declared.Settings.{Settings}
 use Rattle.units.specs.Measurement.{measurementVerdict}
 use Rattle.units.specs.declared.Measurement.{Measurement}
 use Rattle.line.specs.declared.Line.{Line}
-use Rattle.line.specs.Line.{blank, validLine}
+use Rattle.line.specs.Line.{ends, validLine}
 use Rattle.line.proofs.Laws.{blank-valid}
 use Rattle.state.specs.State.{messageLength, zeros}
+use Rattle.state.proofs.Laws.{zeros-long}
 use Rattle.rules.specs.Does.{isOn}
-use Rattle.rules.specs.Lens.{lens, Good, greeting}
+use Rattle.rules.specs.Lens.{measurement, lens, Good, greeting}
 use Rattle.rules.proofs.Demand3.{demand3}
 use Rattle.port.specs.declared.Port.{Port}
 use Rattle.port.specs.declared.Handed.{Handed}
 use Rattle.port.specs.declared.Received.{Received}
 use Rattle.port.specs.declared.Sent.{Sent}
 use Rattle.port.specs.declared.Sent.the-variants as sent
-use Rattle.port.specs.Port.{validPort, slotOf, takenOf, receiveOf, handed, measuredPort, measureOf, started, startOf}
-use Rattle.port.proofs.Valid.{source-valid, slot-fine}
-use Rattle.port.proofs.Promises.{by, kept-valid}
+use Rattle.port.specs.Port.{validPort, slotOf, takenOf, receiveOf, measuredPort, measureOf, started, startOf}
+use Rattle.port.proofs.Valid.{source-valid}
+use Rattle.port.proofs.Promises.{by-handed, start-is, kept-valid}
 use Rattle.fill.specs.Fill.{Run, thenRun, runOf, fillOf}
 use Rattle.fill.specs.declared.Filled.{Filled}
 use Rattle.walk.specs.View.{view, bytesOf}
 use Rattle.walk.specs.Walk.{Sound}
 use Rattle.walk.specs.Calls.{Call, receive, slots-once, measure, fill, Held, after, bytes, ranBy, ran, eventsOf, afterAll, bytesAll, eventsAll, begun, OfThePort}
-use Rattle.walk.proofs.Slot.{zeros-long, slot-alike}
 use Rattle.walk.proofs.Walk.{walks}
 
 abbrev viewOf : Held → State lens
@@ -84,11 +79,11 @@ runs (suc n) p l s =
 
 quiet-byte : (x : State lens) (b : ℕ) → sentIn (shows x (received b)) ≡ []
 unfolding onByte onReturn onOther
-quiet-byte (port m none u k l) b = by (λ (y : State lens × Out lens). sentIn (y .1) ≡ []) (eqb b 13) _ _ (λ y. refl) (λ n. refl)
-quiet-byte (port m (some c) u k l) b = by (λ (y : State lens × Out lens). sentIn (y .1) ≡ []) (eqb b 13) _ _ (λ y. refl) (λ n. refl)
+quiet-byte (port m none u k l) b = by (λ (y : State lens × Out lens). sentIn (y .1) ≡ []) (ends l b) _ _ (λ y. refl) (λ n. refl)
+quiet-byte (port m (some c) u k l) b = by (λ (y : State lens × Out lens). sentIn (y .1) ≡ []) (ends l b) _ _ (λ y. refl) (λ n. refl)
 
-quiet-measure : (x : State lens) (m : Measurement) → sentIn (shows x (measured m)) ≡ []
-unfolding onMeasured
+quiet-measure : (x : State lens) (m : Measurement) → sentIn (shows x (given (measurement m))) ≡ []
+unfolding onGiven
 quiet-measure (port s w u k l) m = refl
 
 -- a received byte and a measurement leave the buffer alone
@@ -97,20 +92,14 @@ unfolding receiveOf takenOf
 received-long p l b h =
     let P : Received → Type 0 = λ x. length (x .port .message .bytes) ≡ messageLength in
     by P (validPort p && validLine l) _ _
-    (λ v. by P (eqb b 13) _ _ (λ y. by P (p .waiting .some) _ _ (λ w. h) (λ w. h)) (λ n. h))
+    (λ v. by P (ends l b) _ _ (λ y. by P (p .waiting .some) _ _ (λ w. h) (λ w. h)) (λ n. h))
     (λ n. h)
-
-handed-long : (v : Verdict) (new old : Port) → length (new .message .bytes) ≡ messageLength → length (old .message .bytes) ≡ messageLength → length (handed v new old .port .message .bytes) ≡ messageLength
-unfolding handed
-handed-long Done new old a b = a
-handed-long (Refused r) new old a b = b
 
 measured-long : (p : Port) (m : Measurement) → length (p .message .bytes) ≡ messageLength → length (measureOf p m .port .message .bytes) ≡ messageLength
 unfolding measureOf
 measured-long p m h =
-    by (λ (x : Handed). length (x .port .message .bytes) ≡ messageLength) (validPort p) _ _
-    (λ v. handed-long (measurementVerdict m) (measuredPort p m) p h h)
-    (λ n. h)
+    let P : Handed → Type 0 = λ x. length (x .port .message .bytes) ≡ messageLength in
+    by P (validPort p) _ _ (λ v. by-handed P (measurementVerdict m) (measuredPort p m) p (λ d. h) (λ r. h)) (λ n. h)
 
 fill-is : (p : Port) (n : ℕ) → validPort p ≡ true → fillOf p n .port ≡ runOf n p .port
 unfolding fillOf
@@ -161,18 +150,6 @@ all-follow h (c ∷ cs) s l =
     )
 
 -- ---- from a start
-
-handed-is : (v : Verdict) (new old : Port) → handed v new old .verdict ≡ Done → handed v new old .port ≡ new
-unfolding handed
-handed-is Done new old e = refl
-handed-is (Refused r) new old e = absurd (let z : _≡_ {A = ℕ} 0 1 = cc in omega arith)
-
-start-is : (old : Port) (s : Settings) (m : Measurement) → startOf old s m .verdict ≡ Done → startOf old s m .port ≡ started s m
-unfolding startOf
-start-is old s m =
-    by (λ (x : Handed). x .verdict ≡ Done → x .port ≡ started s m) (eqb (settingsLowest s) 0) _ _
-    (λ y. handed-is (measurementVerdict m) (started s m) old)
-    (λ n e. absurd (let z : _≡_ {A = ℕ} 0 1 = cc in omega arith))
 
 start-sound : (old : Port) (s : Settings) (m : Measurement) → startOf old s m .verdict ≡ Done → Sound (startOf old s m .port)
 start-sound old s m e =

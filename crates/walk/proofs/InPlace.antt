@@ -1,23 +1,21 @@
 -- Collecting in place is what receive does, case by case; then call by call, from a valid port. Assumes nothing.
 use Prim.Native.Nat.{ℕ}
-use mathlib.Core.Bool.{true, false, _&&_, cond, false≢true}
+use mathlib.Core.Bool.{true, false, _&&_, false≢true}
 use mathlib.Core.List.{List, [], _∷_, _++_}
 use mathlib.Core.Path.{_≡_, refl, sym, ap, ap₂, _∙_}
 use native.Mathlib.Omega.{arith}
-use borrow.Author.Tests.{eqb-true}
-use lib.Dec.{eqb}
-use Rattle.laws.proofs.Tests.{and-right, and-both, cond-yes, cond-no, told}
+use Rattle.laws.proofs.Tests.{and-right, and-both, cond-yes, cond-no, told, by}
 use Rattle.refusal.specs.declared.Refusal.the-variants as refusal
 use Rattle.refusal.specs.declared.Verdict.the-variants.{Done, Refused}
 use Rattle.line.specs.declared.Line.{Line}
-use Rattle.line.specs.Line.{blank, joined, validLine}
+use Rattle.line.specs.Line.{blank, ends, joined, validLine}
 use Rattle.collector.specs.declared.Collected.{Collected}
 use Rattle.collector.specs.Collect.{lineAfter, collected}
 use Rattle.collector.proofs.Laws.{refused-line, refused-answer, return-line, return-answer, other-line, other-answer}
 use Rattle.port.specs.declared.Port.{Port}
 use Rattle.port.specs.declared.Received.{Received}
 use Rattle.port.specs.Port.{validPort, takenOf, receiveOf}
-use Rattle.port.proofs.Promises.{by, kept-valid}
+use Rattle.port.proofs.Promises.{kept-valid}
 use Rattle.fill.proofs.Promises.{promised}
 use Rattle.walk.specs.Calls.{Call, receive, slots-once, measure, fill, Held, after, bytes, afterAll, bytesAll}
 use Rattle.walk.specs.InPlace.{portInPlace, inPlace, allInPlace, bytesInPlace, InPlace}
@@ -36,11 +34,11 @@ module _ (p : Port) (l : Line) (b : ℕ) where
       (λ m. cond-no _ _ m)
 
   module _ (v : validPort p ≡ true) (w : validLine l ≡ true) where
-    return-received : eqb b 13 ≡ true → receiveOf p l b ≡ takenOf p l
+    return-received : ends l b ≡ true → receiveOf p l b ≡ takenOf p l
     unfolding receiveOf
     return-received e = cond-yes _ _ (and-both v w) ∙ cond-yes _ _ e
 
-    other-received : eqb b 13 ≡ false → receiveOf p l b ≡ record { verdict = Done; port = p; line = joined l b }
+    other-received : ends l b ≡ false → receiveOf p l b ≡ record { verdict = Done; port = p; line = joined l b }
     unfolding receiveOf
     other-received n = cond-yes _ _ (and-both v w) ∙ cond-no _ _ n
 
@@ -52,17 +50,17 @@ module _ (p : Port) (l : Line) (b : ℕ) where
   line v =
       told (validLine l)
       (λ w.
-      told (eqb b 13)
+      told (ends l b)
       (λ e. ap (λ (x : Received). x .line) (return-received v w e) ∙ emptied ∙ sym (return-line l b w e))
       (λ n. ap (λ (x : Received). x .line) (other-received v w n) ∙ sym (other-line l b w n)))
       (λ n. ap (λ (x : Received). x .line) (refused-received n) ∙ sym (refused-line l b n))
 
-  ended : collected l b .ended ≡ true → receiveOf p (collected l b .line) 13 ≡ receiveOf p l b
+  ended : collected l b .ended ≡ true → receiveOf p (collected l b .line) b ≡ receiveOf p l b
   ended =
       told (validLine l)
       (λ w.
-      told (eqb b 13)
-      (λ e h. ap (λ (c : Collected). receiveOf p (c .line) 13) (return-answer l b w e) ∙ ap (receiveOf p l) (sym (eqb-true b 13 e)))
+      told (ends l b)
+      (λ e h. ap (λ (c : Collected). receiveOf p (c .line) b) (return-answer l b w e))
       (λ n h. no-end (other-answer l b w n) refl h))
       (λ n h. no-end (refused-answer l b n) refl h)
 
@@ -70,7 +68,7 @@ module _ (p : Port) (l : Line) (b : ℕ) where
   refused =
       told (validLine l)
       (λ w.
-      told (eqb b 13)
+      told (ends l b)
       (λ e h. absurd (let z = ap (λ (c : Collected). c .number) (return-answer l b w e) in omega arith))
       (λ n h. absurd (let z = ap (λ (c : Collected). c .number) (other-answer l b w n) in omega arith)))
       (λ n h. (ap (λ (x : Received). x .verdict) (refused-received n), ap (λ (x : Received). x .port) (refused-received n)))
@@ -79,7 +77,7 @@ module _ (p : Port) (l : Line) (b : ℕ) where
   done v =
       told (validLine l)
       (λ w.
-      told (eqb b 13)
+      told (ends l b)
       (λ e f h. absurd (false≢true (sym f ∙ ap (λ (c : Collected). c .ended) (return-answer l b w e))))
       (λ n f h. ap (λ (x : Received). x .verdict) (other-received v w n)))
       (λ n f h. absurd (let z = ap (λ (c : Collected). c .number) (refused-answer l b n) in omega arith))
@@ -89,7 +87,7 @@ module _ (p : Port) (l : Line) (b : ℕ) where
   stays v f =
       told (validLine l)
       (λ w.
-      told (eqb b 13)
+      told (ends l b)
       (λ e. absurd (false≢true (sym f ∙ ap (λ (c : Collected). c .ended) (return-answer l b w e))))
       (λ n. ap (λ (x : Received). x .port) (other-received v w n)))
       (λ n. ap (λ (x : Received). x .port) (refused-received n))

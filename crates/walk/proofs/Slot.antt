@@ -1,37 +1,36 @@
 -- A slot of a sound port is the machine's slot of its view: first the byte of a message under way, then a message that starts, then each rule. Assumes nothing.
-use Prim.Native.Nat.{ℕ, zero, suc, _+_, _≤_, _<_}
+use Prim.Native.Nat.{ℕ, suc, _+_, _≤_, _<_}
 use mathlib.Core.Bool.{Bool, true, false, _&&_, cond}
 use mathlib.Core.List.{List, [], _∷_}
 use mathlib.Core.Option.{Option, none, some}
 use mathlib.Core.Path.{_≡_, refl, sym, ap, subst, _∙_}
 use native.Mathlib.Numerals.{add-one}
 use native.Mathlib.Omega.{arith}
-use borrow.Author.Tests.{leb-true, ltb-true, ltb-false, eqb-true, eqb-false}
+use borrow.Author.Tests.{ltb-true, ltb-false, eqb-true, eqb-false}
 use lib.Arith.{lt-of-le-ne}
-use lib.Dec.{leb, ltb, eqb}
-use lib.ListN.{length, take, drop, getD, length-replicate, drop-of-length-le}
+use lib.Dec.{ltb, eqb}
+use lib.ListN.{length, take, drop, getD, drop-of-length-le}
 use lib.Seq.{drop-cons, getD-take, length-take-le}
-use Rattle.laws.specs.Over.{over}
 use Rattle.laws.proofs.OverLaws.{length-over, take-over}
-use Rattle.laws.proofs.Tests.{and-left, and-right, cond-yes, cond-no, told}
-use Rattle.machine.specs.Machine.{Kind, neither, a-record, a-reply, State, port, Out, sends, begins, idles, Choice, choice, owed, rule3, answer, rule2, rules, sent-one, replyKind, begin, onSlot, next, shows, sentIn, slot}
+use Rattle.laws.proofs.Tests.{cond-no, told}
+use Rattle.machine.specs.Machine.{Kind, neither, a-record, State, port, Out, sends, begins, Choice, choice, owed, rule3, answer, rule2, rules, sent-one, replyKind, begin, onSlot, sentIn}
 use Rattle.line.specs.declared.Line.{Line}
-use Rattle.line.specs.Line.{blank}
 use Rattle.state.specs.declared.Last.{Last}
 use Rattle.state.specs.declared.Last.the-variants as last
 use Rattle.state.specs.declared.Message.{Message}
 use Rattle.state.specs.declared.Source.{Source}
 use Rattle.state.specs.declared.Waiting.{Waiting}
-use Rattle.state.specs.State.{messageLength, zeros, messageOf, validMessage, validSource}
-use Rattle.rules.specs.Does.{withModes, rateMoved, does, counts, continuous, recordMessage}
-use Rattle.rules.specs.Lens.{lens}
+use Rattle.state.specs.State.{messageLength, zeros, unsent, validMessage, validSource}
+use Rattle.rules.specs.Does.{does, counts, continuous, recordMessage}
+use Rattle.state.proofs.Laws.{zeros-long}
+use Rattle.rules.specs.Lens.{lens, longestMessage}
 use Rattle.rules.proofs.Kept.{does-valid, reply-at-most}
 use Rattle.rules.proofs.Lengths.{record-at-most, record-some}
 use Rattle.port.specs.declared.Port.{Port}
 use Rattle.port.specs.declared.Slotted.{Slotted}
 use Rattle.port.specs.declared.Sent.the-variants as sent
-use Rattle.port.specs.Port.{validPort, movedIf, sendFrom, begunWith, beginsRecord, restOf, nobody, freed, replyLast, answers, isReply, actOf, chooseOf, slotOf}
-use Rattle.port.proofs.Valid.{source-valid, message-valid, message-low, slot-fine}
+use Rattle.port.specs.Port.{movedIf, sendFrom, begunWith, beginsRecord, restOf, nobody, freed, replyLast, answers, isReply, actOf, chooseOf, slotOf}
+use Rattle.port.proofs.Valid.{source-valid, message-valid, message-low}
 use Rattle.walk.specs.View.{kindOf, waitsOf, leftOf, view, bytesOf}
 use Rattle.walk.specs.Walk.{Sound}
 
@@ -79,17 +78,13 @@ send-alike p l at b bs out long low more e o =
 
 -- ---- a message that starts
 
-pub zeros-long : length zeros ≡ messageLength
-unfolding zeros
-zeros-long = length-replicate {A = ℕ} messageLength 0
-
-begin-alike : (s : Source) (b : ℕ) (bs : List ℕ) (k : Last) (w : Waiting) (l : Line) (out : Out lens) → length (b ∷ bs) ≤ 78 → sentIn out ≡ b ∷ [] →
-    Alike l (begunWith s (messageOf (b ∷ bs)) k w) (port (sent-one lens s bs) (waitsOf w) bs (kindOf k) l, out)
+begin-alike : (s : Source) (b : ℕ) (bs : List ℕ) (k : Last) (w : Waiting) (l : Line) (out : Out lens) → length (b ∷ bs) ≤ longestMessage → sentIn out ≡ b ∷ [] →
+    Alike l (begunWith s (unsent (b ∷ bs)) k w) (port (sent-one lens s bs) (waitsOf w) bs (kindOf k) l, out)
 unfolding begunWith
 begin-alike s b bs k w l out low o =
     let xs = b ∷ bs in
     let z = zeros-long in
-    send-alike (record { source = s; message = messageOf xs; last = k; waiting = w }) l 0 b bs out
+    send-alike (record { source = s; message = unsent xs; last = k; waiting = w }) l 0 b bs out
     (length-over zeros xs 0 ∙ z) (omega arith) (omega arith) (take-over zeros xs (length xs) refl (omega arith)) o
 
 -- nothing is left where the place is the length
@@ -110,8 +105,8 @@ and-true false = refl
 abbrev pub Chosen : Line → Kind → Slotted → Choice lens → Type 0
 Chosen l k x c = Alike l x (begin c k l)
 
-some-alike : (s : Source) (xs : List ℕ) (k : Last) (w : Waiting) (l : Line) (a : Option Line) (before : Kind) → 0 < length xs → length xs ≤ 78 →
-    Chosen l before (begunWith s (messageOf xs) k w) (choice a s (waitsOf w) (kindOf k) xs)
+some-alike : (s : Source) (xs : List ℕ) (k : Last) (w : Waiting) (l : Line) (a : Option Line) (before : Kind) → 0 < length xs → length xs ≤ longestMessage →
+    Chosen l before (begunWith s (unsent xs) k w) (choice a s (waitsOf w) (kindOf k) xs)
 unfolding begin
 some-alike s [] k w l a before h low = absurd (omega arith)
 some-alike s (b ∷ bs) k w l a before h low = begin-alike s b bs k w l (begins a (kindOf k) b bs) low refl
@@ -141,7 +136,7 @@ reply-kind true = refl
 reply-kind false = refl
 
 -- rule 2, by what the command answers
-answered : (p : Port) (l : Line) (xs : List ℕ) → validSource (p .source) ≡ true → length (p .message .bytes) ≡ messageLength → leftOf (p .message) ≡ [] → length xs ≤ 78 →
+answered : (p : Port) (l : Line) (xs : List ℕ) → validSource (p .source) ≡ true → length (p .message .bytes) ≡ messageLength → leftOf (p .message) ≡ [] → length xs ≤ longestMessage →
     let c = p .waiting .line in
     Chosen l (kindOf (p .last)) (answers p (does (p .source) c .source) xs (replyLast (counts (p .source) c))) (answer lens xs (p .source) c)
 unfolding answers answer
@@ -151,7 +146,7 @@ answered p l [] v long e low =
 answered p l (b ∷ bs) v long e low =
     let c = p .waiting .line in
     let s = does (p .source) c .source in
-    subst (λ (k : Kind). Chosen l (kindOf (p .last)) (begunWith s (messageOf (b ∷ bs)) (replyLast (counts (p .source) c)) nobody) (choice (some c) s none k (b ∷ bs))) (reply-kind (counts (p .source) c))
+    subst (λ (k : Kind). Chosen l (kindOf (p .last)) (begunWith s (unsent (b ∷ bs)) (replyLast (counts (p .source) c)) nobody) (choice (some c) s none k (b ∷ bs))) (reply-kind (counts (p .source) c))
     (some-alike s (b ∷ bs) (replyLast (counts (p .source) c)) nobody l (some c) (kindOf (p .last)) (omega arith) low)
 
 act-alike : (p : Port) (l : Line) → validSource (p .source) ≡ true → length (p .message .bytes) ≡ messageLength → leftOf (p .message) ≡ [] →

@@ -1,18 +1,17 @@
 -- Demand 3 for the port itself: every sequence of calls of receive, slot, measure and fill is a run of the machine, from the state that a start
 -- leaves; a fill counts as the slots it runs. Statements only.
 use Prim.Native.Nat.{ℕ, zero, suc}
-use mathlib.Core.Bool.{true}
 use mathlib.Core.List.{List, [], _∷_, _++_}
 use mathlib.Core.Path.{_≡_}
 use lib.ListN.{replicate}
-use Rattle.machine.specs.Machine.{Event, Events, received, slot, measured, run, sent, start}
+use Rattle.machine.specs.Machine.{Events, received, slot, given, run, sent, start}
 use Rattle.machine.specs.Promised.{Promised}
 use Rattle.refusal.specs.declared.Verdict.the-variants.{Done}
 use Rattle.fixed.specs.declared.Settings.{Settings}
 use Rattle.units.specs.declared.Measurement.{Measurement}
 use Rattle.line.specs.declared.Line.{Line}
 use Rattle.line.specs.Line.{blank}
-use Rattle.rules.specs.Lens.{lens}
+use Rattle.rules.specs.Lens.{measurement, lens}
 use Rattle.rules.specs.Promise.{actBy, replyBy, recordBy}
 use Rattle.port.specs.declared.Port.{Port}
 use Rattle.port.specs.declared.Sent.{Sent}
@@ -60,7 +59,7 @@ ran (suc n) p = ranBy (slotOf p .sent) (ran n (slotOf p .port))
 abbrev pub eventsOf : Held → Call → Events lens
 eventsOf h (receive b) = received b ∷ []
 eventsOf h slots-once = slot ∷ []
-eventsOf h (measure m) = measured m ∷ []
+eventsOf h (measure m) = given (measurement m) ∷ []
 eventsOf h (fill n) = replicate (ran n (h .port)) slot
 
 -- and of a list of calls: the state after them, their bytes, their events, end to end

@@ -1,5 +1,5 @@
--- A driver that keeps its collector in place: it collects each received byte there, and where a line ended it hands that line to the port with a
--- carriage return. That is what receive does, so all that is proved of its calls holds of such a driver. Statements only.
+-- A driver that keeps its collector in place: it collects each received byte there, and where a line ended it hands that line to the port with
+-- that byte. That is what receive does, so all that is proved of its calls holds of such a driver. Statements only.
 use Prim.Native.Nat.{ℕ}
 use mathlib.Core.Bool.{true, false, cond}
 use mathlib.Core.List.{List, [], _∷_, _++_}
@@ -16,7 +16,7 @@ use Rattle.walk.specs.Calls.{Call, receive, slots-once, measure, fill, H
 
 -- the port is called only where a line ended
 abbrev pub portInPlace : Port → Line → ℕ → Port
-portInPlace p l b = cond (collected l b .ended) (receiveOf p (collected l b .line) 13 .port) p
+portInPlace p l b = cond (collected l b .ended) (receiveOf p (collected l b .line) b .port) p
 
 -- a call of such a driver's
 abbrev pub inPlace : Held → Call → Held
@@ -37,8 +37,8 @@ bytesInPlace h (c ∷ cs) = bytes h c ++ bytesInPlace (inPlace h c) cs
 pub record InPlace : Type 0 where
   -- the collector is the line that receive hands back
   pub line : (p : Port) (l : Line) (b : ℕ) → validPort p ≡ true → receiveOf p l b .line ≡ lineAfter l b
-  -- a line that ended is answered as receive answers its carriage return
-  pub ended : (p : Port) (l : Line) (b : ℕ) → collected l b .ended ≡ true → receiveOf p (collected l b .line) 13 ≡ receiveOf p l b
+  -- a line that ended is answered as receive answers its last byte
+  pub ended : (p : Port) (l : Line) (b : ℕ) → collected l b .ended ≡ true → receiveOf p (collected l b .line) b ≡ receiveOf p l b
   -- a byte that joined leaves the port alone
   pub joined : (p : Port) (l : Line) (b : ℕ) → validPort p ≡ true → collected l b .ended ≡ false → collected l b .number ≡ 0 →
       (receiveOf p l b .verdict ≡ Done) × (receiveOf p l b .port ≡ p)

@@ -1,16 +1,16 @@
 -- The port and the paper's machine walk together: what each entry makes of a valid port is what the machine makes of its view. Statements only.
 use Prim.Native.Nat.{ℕ}
-use mathlib.Core.Bool.{Bool, true, _&&_}
+use mathlib.Core.Bool.{true}
 use mathlib.Core.Path.{_≡_}
 use lib.ListN.{length}
-use Rattle.machine.specs.Machine.{received, slot, measured, next, shows, sentIn, start}
+use Rattle.machine.specs.Machine.{received, slot, given, next, shows, sentIn, start}
 use Rattle.refusal.specs.declared.Verdict.the-variants.{Done}
 use Rattle.fixed.specs.declared.Settings.{Settings}
 use Rattle.units.specs.declared.Measurement.{Measurement}
 use Rattle.line.specs.declared.Line.{Line}
 use Rattle.line.specs.Line.{blank, validLine}
 use Rattle.state.specs.State.{messageLength}
-use Rattle.rules.specs.Lens.{lens}
+use Rattle.rules.specs.Lens.{measurement, lens}
 use Rattle.port.specs.declared.Port.{Port}
 use Rattle.port.specs.Port.{validPort, slotOf, receiveOf, measureOf, started, startOf}
 use Rattle.walk.specs.View.{view, bytesOf}
@@ -29,6 +29,6 @@ pub record Walks : Type 0 where
   -- so does a received byte
   pub receive-walks : (p : Port) (l : Line) (b : ℕ) → Sound p → validLine l ≡ true → view (receiveOf p l b .port) (receiveOf p l b .line) ≡ next (view p l) (received b)
   -- and a new measurement, which changes nothing where it is refused
-  pub measure-walks : (p : Port) (l : Line) (m : Measurement) → Sound p → view (measureOf p m .port) l ≡ next (view p l) (measured m)
+  pub measure-walks : (p : Port) (l : Line) (m : Measurement) → Sound p → view (measureOf p m .port) l ≡ next (view p l) (given (measurement m))
   -- and a sound port stays sound
   pub slot-sound : (p : Port) → Sound p → Sound (slotOf p .port)

@@ -15,13 +15,19 @@ pub enum Event {
     Fill(u8),
 }
 
+/// The bytes of a measurement.
+const MEASUREMENT: usize = 49;
+
 impl Event {
     /// The first event of the input, and what comes after it; none if it is cut short or no event.
     pub fn first(input: &[u8]) -> Option<(Event, &[u8])> {
         match input {
             [b'R', byte, rest @ ..] => Some((Event::Received(*byte), rest)),
             [b'S', rest @ ..] => Some((Event::Slot, rest)),
-            [b'M', rest @ ..] => rest.split_first_chunk().map(|(bytes, rest)| (Event::Measured(measurement(bytes)), rest)),
+            [b'M', rest @ ..] if MEASUREMENT <= rest.len() => {
+                let (bytes, rest) = rest.split_at(MEASUREMENT);
+                Some((Event::Measured(measurement(bytes)), rest))
+            }
             [b'F', room, rest @ ..] => Some((Event::Fill(*room), rest)),
             _ => None,
         }
@@ -29,7 +35,7 @@ impl Event {
 }
 
 /// The unit letter, fields 1 to 11 and the temperature; a number is four bytes, lowest first, two's complement.
-fn measurement(bytes: &[u8; 49]) -> Measurement {
+fn measurement(bytes: &[u8]) -> Measurement {
     let mut numbers = bytes[1..].chunks_exact(4).map(|four| i32::from_le_bytes([four[0], four[1], four[2], four[3]]));
     let mut next = || numbers.next().unwrap_or_default();
     Measurement { unit: bytes[0], fields: std::array::from_fn(|_| next()), temperature: next() }

@@ -33,9 +33,9 @@ pub struct Fixed {
 }
 
 // Lengths of what stands before the checksum and LF CR.
-const TEXT: usize = 74;
-const PACKED: usize = 39;
-const FIXED: usize = 65;
+pub const TEXT: usize = 74;
+pub const PACKED: usize = 39;
+pub const FIXED: usize = 65;
 
 fn refusal(number: u32, value: usize) -> Refusal {
     Refusal { number, value: value as u64 }

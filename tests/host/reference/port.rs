@@ -382,10 +382,11 @@ impl Port {
 
     /// Starts a record if continuous sending is on; whether it is.
     fn continue_sending(&mut self) -> bool {
-        let Some(form) = self.continuous else { return false };
-        self.message = self.record(form);
-        self.sent_last = Sent::Record;
-        true
+        if let Some(form) = self.continuous {
+            self.message = self.record(form);
+            self.sent_last = Sent::Record;
+        }
+        self.continuous.is_some()
     }
 
     fn record(&self, form: Form) -> Message {

@@ -2,7 +2,7 @@
 use Prim.Native.Nat.{ℕ}
 use mathlib.Core.Bool.{false}
 use mathlib.Core.Path.{refl, sym, ap, ap₂, _∙_}
-use borrow.Author.Tests.{eq-eqb, ne-eqb, not-true, not-false}
+use borrow.Author.Tests.{not-true, not-false}
 use Rattle.laws.proofs.Tests.{yes, no}
 use Rattle.line.specs.declared.Line.{Line}
 use Rattle.collector.specs.declared.Collected.{Collected}
@@ -30,11 +30,15 @@ returns c =
     let v = c .before .before in
     no _ (sym (v .before .is-valid .ensures) ∙ not-true _ (v .if1 .taken)) (ap₂ none (c .before .number-of .ensures) (c .blank .ensures))
 
+ends-requires : tie.Need-ends-requires
+ends-requires c κs = search needs
+
 returns-2 : tie.Need-returns-2
 unfolding collected
 returns-2 c =
-    let v = c .before in
-    yes _ (sym (v .before .is-valid .ensures) ∙ not-false _ (v .if1 .left)) (yes _ (eq-eqb _ _ (c .if2 .taken)) refl)
+    let e = c .before in
+    let v = e .before in
+    yes _ (sym (v .before .is-valid .ensures) ∙ not-false _ (v .if1 .left)) (yes _ (sym (e .ends .ensures) ∙ c .if2 .taken) refl)
 
 blank-requires-2 : tie.Need-blank-requires-2
 blank-requires-2 c κs = search needs
@@ -42,10 +46,12 @@ blank-requires-2 c κs = search needs
 returns-3 : tie.Need-returns-3
 unfolding collected
 returns-3 c =
-    let v = c .before .before in
-    yes _ (sym (v .before .is-valid .ensures) ∙ not-false _ (v .if1 .left)) (no _ (ne-eqb _ _ (c .before .if2 .left)) (ap (none 0) (c .blank2 .ensures)))
+    let e = c .before .before in
+    let v = e .before in
+    yes _ (sym (v .before .is-valid .ensures) ∙ not-false _ (v .if1 .left))
+    (no _ (sym (e .ends .ensures) ∙ c .before .if2 .left) (ap (none 0) (c .blank2 .ensures)))
 
 pub answer-spec : {M : Type 1} → statement M
 answer-spec =
     tie.close
-    (tie.spec is-valid-requires number-of-requires blank-requires returns returns-2 blank-requires-2 returns-3)
+    (tie.spec is-valid-requires number-of-requires blank-requires returns ends-requires returns-2 blank-requires-2 returns-3)

@@ -1,15 +1,14 @@
 -- `digits::put` meets its contract. Before each turn the digits above `left` places are still to write, and `m` is what they are taken from.
 -- Assumes nothing.
-use Prim.Native.Nat.{ℕ, suc, _+_, _-_, _*_, _/_, _%_, _^_, _≤_, _<_}
-use mathlib.Core.Path.{_≡_, refl, sym, ap, _∙_}
-use mathlib.Core.List.{List, [], _∷_, _++_, append-assoc}
+use Prim.Native.Nat.{ℕ, suc, _+_, _-_, _/_, _%_, _^_, _≤_, _<_}
+use mathlib.Core.Path.{_≡_, refl, sym, _∙_}
+use mathlib.Core.List.{List, _∷_, _++_, append-assoc}
 use native.Mathlib.Nat.{pow-suc, pow-zero, div-one, div-div-eq-div-mul, sub-self, sub-zero, add-zero, mod-lt}
 use native.Mathlib.Omega.{arith}
 use borrow.Author.Needs.{needs}
 use borrow.Author.Tests.{leb-true, leb-false, not-true, not-false}
 use lib.ListN.{length, set, getD, take, drop, length-set, take-append-drop}
 use lib.Seq.{take-suc, set-at, length-take-le}
-use Rattle.laws.specs.Over.{over}
 use Rattle.laws.proofs.OverLaws.{over-fits, over-short}
 use Rattle.digits.specs.Digits.{digits}
 use Rattle.digits.proofs.Laws.{length-digits}

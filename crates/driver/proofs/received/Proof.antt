@@ -20,7 +20,7 @@ returns c =
     let a = b .before .args in
     let u = b .lend .ensures in (
       yes _ (sym (ap (λ (x : Updated). x .answer .ended) u) ∙ c .before .before .before .if1 .taken)
-          (ap (λ (x : Received). x .port) (c .before .receive .ensures) ∙ ap (λ (x : Updated). receiveOf (a .port) (x .answer .line) 13 .port) u),
+          (ap (λ (x : Received). x .port) (c .before .receive .ensures) ∙ ap (λ (x : Updated). receiveOf (a .port) (x .answer .line) (a .byte) .port) u),
       ap (λ (x : Updated). x .line) u,
     )
 

@@ -1,19 +1,18 @@
 -- `fill::fill` meets its contract: before each turn i slots have been run, and what they sent is written. Assumes nothing.
-use Prim.Native.Nat.{ℕ, _+_, _-_, _≤_}
-use mathlib.Core.Bool.{true, false}
+use Prim.Native.Nat.{ℕ, _+_, _-_}
+use mathlib.Core.Bool.{true}
 use mathlib.Core.List.{List}
-use mathlib.Core.Path.{_≡_, refl, sym, subst, _∙_}
+use mathlib.Core.Path.{_≡_, refl, sym, _∙_}
 use native.Mathlib.Omega.{arith}
 use borrow.Author.Needs.{needs}
 use borrow.Author.Tests.{not-true, not-false}
-use lib.ListN.{length, set, length-set}
+use lib.ListN.{length, set}
 use denote.Ref.{now}
 use Rattle.laws.specs.Gives.{Gives}
 use Rattle.laws.proofs.Tests.{yes, no}
 use Rattle.refusal.specs.declared.Verdict.the-variants.{Done}
 use Rattle.port.specs.declared.Port.{Port}
 use Rattle.port.specs.Port.{validPort}
-use Rattle.fill.specs.declared.Filled.{Filled}
 use Rattle.fill.specs.Fill.{fillOf, fillLeaves}
 use Rattle.fill.proofs.Laws.{At, Ends, one-sends, begins, as-long, less, onward, stored, stops, full}
 use Rattle.fill.proofs.fill.Statement.{statement}

@@ -4,7 +4,7 @@ use mathlib.Core.Path.{ap}
 use borrow.Author.Needs.{needs}
 use lib.Dec.{eqb}
 use lib.ListN.{length}
-use Rattle.fixed.specs.Fixed.{textOk}
+use Rattle.codec.specs.Codec.{textOk}
 use Rattle.fixed.proofs.is_item.Statement.{statement}
 use Rattle.fixed.proofs.is_item.Tie as tie
 

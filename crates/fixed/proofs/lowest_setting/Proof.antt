@@ -1,23 +1,17 @@
 -- `fixed::lowest_setting` meets its contract: the fixed data, then the names and the table. Assumes nothing.
-use Prim.Native.Nat.{ℕ}
-use mathlib.Core.Bool.{Bool, _&&_}
-use mathlib.Core.List.{List}
 use mathlib.Core.Path.{_≡_, sym, _∙_}
 use borrow.Author.Needs.{needs}
-use borrow.Author.Tests.{eq-eqb, not-true, not-false}
-use lib.Dec.{eqb}
+use borrow.Author.Tests.{not-true, not-false}
 use lib.ListN.{length}
 use Rattle.codec.proofs.Lowest.{wrong-here, right-here, some-here, none-here, wrong-last, right-last}
-use Rattle.fixed.specs.Fixed.{blurOk, settingsLowest}
+use Rattle.fixed.specs.Fixed.{settingsLowest}
+use Rattle.fixed.proofs.Fine.{table-fine}
 use Rattle.fixed.proofs.lowest_setting.Statement.{statement}
 use Rattle.fixed.proofs.lowest_setting.Tie as tie
 
 -- 32 circles, by type, so only their range is tested
 long : (b : tie.Start) → length (b .args .s .blur) ≡ 32
 long b = search needs
-
-untold : (s : List ℕ) (b : Bool) → length s ≡ 32 → blurOk s ≡ b → (eqb (length s) 32 && blurOk s) ≡ b
-untold s b l e = rw (eq-eqb (length s) 32 l) e
 
 lowest-item-requires : tie.Need-lowest-item-requires
 lowest-item-requires c κs = search needs
@@ -70,7 +64,7 @@ returns-4 c =
     none-here (f .before .lowest-item .ensures) (f .if1 .left)
     (right-here 9 (sym (m .before .is-item .ensures) ∙ not-false _ (m .if2 .left))
     (right-here 10 (sym (t .before .is-item2 .ensures) ∙ not-false _ (t .if3 .left))
-    (wrong-last 11 (untold (b .args .s .blur) _ (long b) (sym (c .before .is-blur .ensures) ∙ not-true _ (c .if4 .taken))))))
+    (wrong-last 11 (sym (table-fine (b .args .s .blur) (long b) (c .before .is-blur .ensures)) ∙ not-true _ (c .if4 .taken)))))
 
 returns-5 : tie.Need-returns-5
 unfolding settingsLowest
@@ -82,7 +76,7 @@ returns-5 c =
     none-here (f .before .lowest-item .ensures) (f .if1 .left)
     (right-here 9 (sym (m .before .is-item .ensures) ∙ not-false _ (m .if2 .left))
     (right-here 10 (sym (t .before .is-item2 .ensures) ∙ not-false _ (t .if3 .left))
-    (right-last 11 (untold (b .args .s .blur) _ (long b) (sym (c .before .is-blur .ensures) ∙ not-false _ (c .if4 .left))))))
+    (right-last 11 (sym (table-fine (b .args .s .blur) (long b) (c .before .is-blur .ensures)) ∙ not-false _ (c .if4 .left)))))
 
 pub lowest-setting-spec : {M : Type 1} → statement M
 lowest-setting-spec =

@@ -1,7 +1,7 @@
 -- `frame::is_ended` meets its contract. Assumes nothing.
 use mathlib.Core.Path.{refl}
 use borrow.Author.Needs.{needs}
-use Rattle.frame.specs.Frame.{ends}
+use Rattle.frame.specs.Frame.{isEnded}
 use Rattle.frame.proofs.is_ended.Statement.{statement}
 use Rattle.frame.proofs.is_ended.Tie as tie
 
@@ -18,7 +18,7 @@ shared-slice-read-result-2 : tie.Need-shared-slice-read-result-2
 shared-slice-read-result-2 c = search needs
 
 returns : tie.Need-returns
-unfolding ends
+unfolding isEnded
 returns c = refl
 
 pub is-ended-spec : {M : Type 1} → statement M

@@ -1,13 +1,13 @@
 -- `frame::open` meets its contract: each `return` is a case of `opening`. Assumes nothing.
 use Prim.Native.Nat.{ℕ, _+_, _≤_}
-use mathlib.Core.Bool.{Bool, true, false, cond}
-use mathlib.Core.Path.{_≡_, refl, sym, ap, subst, _∙_}
+use mathlib.Core.Bool.{Bool, true, false}
+use mathlib.Core.Path.{_≡_, refl, sym, _∙_}
 use native.Mathlib.Omega.{arith}
 use borrow.Author.Needs.{needs}
 use borrow.Author.Tests.{eqb-true, not-true, not-false}
 use lib.Dec.{eqb}
 use lib.ListN.{length}
-use Rattle.laws.proofs.Tests.{yes, no}
+use Rattle.laws.proofs.Tests.{yes, no, never}
 use Rattle.frame.specs.Frame.{endingWidth, opening}
 use Rattle.frame.proofs.open.Statement.{statement}
 use Rattle.frame.proofs.open.Tie as tie
@@ -19,7 +19,7 @@ two n w false e = omega arith
 
 four : (n w : ℕ) (checksum : Bool) → n ≡ w + endingWidth checksum → checksum ≡ true → w + 2 ≤ n
 four n w true e on = omega arith
-four n w false e on = absurd (let z : _≡_ {A = ℕ} 0 1 = cc in omega arith)
+four n w false e on = never (cc)
 
 has-length-requires : tie.Need-has-length-requires
 has-length-requires c κs = search needs

@@ -1,9 +1,8 @@
 -- `frame::sum_of` meets its contract. Assumes nothing.
-use mathlib.Core.Path.{_≡_, ap}
+use mathlib.Core.Path.{ap}
 use Prim.Native.Nat.{ℕ, _+_, _/_, _%_}
 use borrow.Author.Needs.{needs}
 use Rattle.frame.specs.Frame.{sumOf}
-use Rattle.frame.specs.declared.Sum.{Sum}
 use Rattle.frame.proofs.sum_of.Statement.{statement}
 use Rattle.frame.proofs.sum_of.Tie as tie
 

@@ -1,5 +1,5 @@
 -- `frame::xor_of` meets its contract: what is left of the slice, from `x` on, gives what the whole gives from 255. Assumes nothing.
-use Prim.Native.Nat.{ℕ, _≤_, _-_}
+use Prim.Native.Nat.{_≤_, _-_}
 use mathlib.Core.Path.{_≡_, refl, sym, _∙_}
 use native.Mathlib.Numerals.{add-one}
 use native.Mathlib.Omega.{arith}

@@ -1,26 +1,21 @@
 -- `hourheron::heron_owner_start` meets its contract: refused as the message is, or where an owner's text starts. Assumes nothing.
-use mathlib.Core.Path.{_≡_, refl}
-use Rattle.refusal.specs.Answer.{accepted}
+use mathlib.Core.Path.{_≡_}
 use Rattle.frame.specs.Message.{afterwards, readOf}
 use Rattle.fixed.specs.Form.{fixedForm}
-use Rattle.nreader.specs.Reader.{ownerAt}
-use Rattle.hourheron.proofs.Answers.{fixed-told, was-done, was-refused, asks-none, asks-one}
+use Rattle.hourheron.specs.Host.{toldBy, askedOf}
+use Rattle.hourheron.proofs.Answers.{fixed-told}
 use borrow.Author.Needs.{needs}
 use Rattle.hourheron.proofs.heron_owner_start.Statement.{statement}
 use Rattle.hourheron.proofs.heron_owner_start.Tie as tie
 
+-- the message's answer, by what the reader told
 read : (c : tie.After-read-fixed) →
-    afterwards (c .read-fixed .result .verdict) (accepted (c .read-fixed .result .contents)) ≡ readOf fixedForm (c .before .before .args .checksum) (c .before .before .args .message .now)
+    let a = c .before .before .args in
+    toldBy (c .read-fixed .result .verdict) (c .read-fixed .result .contents) ≡ readOf fixedForm (a .checksum) (a .message .now)
 read c = fixed-told (readOf fixedForm (c .before .before .args .checksum) (c .before .before .args .message .now)) (c .read-fixed .ensures)
 
 read-fixed-requires : tie.Need-read-fixed-requires
 read-fixed-requires c κs = search needs
-
-enum-known-verdict : tie.Need-enum-known-verdict
-enum-known-verdict c = search needs
-
-refuse-requires : tie.Need-refuse-requires
-refuse-requires c κs = search needs
 
 enum-told : tie.Need-enum-told
 enum-told c = search needs
@@ -28,26 +23,23 @@ enum-told c = search needs
 done-requires : tie.Need-done-requires
 done-requires c κs = search needs
 
+enum-known-verdict : tie.Need-enum-known-verdict
+enum-known-verdict c = search needs
+
+refuse-requires : tie.Need-refuse-requires
+refuse-requires c κs = search needs
+
 returns : tie.Need-returns
+unfolding afterwards askedOf
 returns c =
-    let v = c .before .before in
-    let x = v .verdict .given .0 .0 in
-    asks-none ownerAt x (was-refused _ _ (read (v .before .before)) x (v .verdict .given .1)) (c .refuse .ensures)
+    let t = c .before in
+    rw (← read (t .before .before), t .enum-told .given .1) (c .done .ensures)
 
 returns-2 : tie.Need-returns-2
+unfolding afterwards askedOf
 returns-2 c =
-    let t = c .before in
-    let r = t .before .before in
-    asks-one ownerAt (r .read-fixed .result .contents) (was-done _ _ (read r) (t .enum-told .given .1)) refl (c .done .ensures)
+    let v = c .before .before in
+    rw (← read (v .before .before), v .verdict .given .1) (c .refuse .ensures)
 
 pub heron-owner-start-spec : {M : Type 1} → statement M
-heron-owner-start-spec =
-    tie.close
-    (tie.spec
-    read-fixed-requires
-    enum-known-verdict
-    refuse-requires
-    enum-told
-    done-requires
-    returns
-    returns-2)
+heron-owner-start-spec = tie.close (tie.spec read-fixed-requires enum-told done-requires enum-known-verdict refuse-requires returns returns-2)

@@ -1,8 +1,7 @@
 -- `hourheron::heron_read_fixed` meets its contract: what the reader answered is laid. Assumes nothing.
 use Rattle.frame.specs.Message.{readOf}
 use Rattle.fixed.specs.Form.{fixedForm}
-use Rattle.layout.specs.Layout.{fixedBytes, fixedWidth}
-use Rattle.hourheron.proofs.Answers.{fixed-told, lays-told}
+use Rattle.hourheron.proofs.Answers.{fixed-told}
 use borrow.Author.Needs.{needs}
 use Rattle.hourheron.proofs.heron_read_fixed.Statement.{statement}
 use Rattle.hourheron.proofs.heron_read_fixed.Tie as tie
@@ -18,11 +17,10 @@ same-length c = search needs
 
 returns : tie.Need-returns
 returns c =
-    let w = c .before .before in
-    let r = w .before .before in
+    let l = c .before .before in
+    let r = l .before .before in
     let a = r .before .before .before .args in
-    lays-told fixedBytes fixedWidth (a .out .now) (fixed-told (readOf fixedForm (a .checksum) (a .message .now)) (r .read-fixed .ensures)) (w .lay-fixed .ensures)
+    rw (fixed-told (readOf fixedForm (a .checksum) (a .message .now)) (r .read-fixed .ensures)) at (l .lay-fixed .ensures)
 
 pub heron-read-fixed-spec : {M : Type 1} → statement M
-heron-read-fixed-spec =
-    tie.close (tie.spec read-fixed-requires lay-fixed-requires same-length returns)
+heron-read-fixed-spec = tie.close (tie.spec read-fixed-requires lay-fixed-requires same-length returns)

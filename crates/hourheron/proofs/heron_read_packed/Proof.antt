@@ -1,8 +1,7 @@
 -- `hourheron::heron_read_packed` meets its contract: what the reader answered is laid. Assumes nothing.
 use Rattle.frame.specs.Message.{readOf}
 use Rattle.record.specs.Forms.{packedForm}
-use Rattle.layout.specs.Layout.{recordBytes, recordWidth}
-use Rattle.hourheron.proofs.Answers.{record-told, lays-told}
+use Rattle.hourheron.proofs.Answers.{record-told}
 use borrow.Author.Needs.{needs}
 use Rattle.hourheron.proofs.heron_read_packed.Statement.{statement}
 use Rattle.hourheron.proofs.heron_read_packed.Tie as tie
@@ -18,11 +17,10 @@ same-length c = search needs
 
 returns : tie.Need-returns
 returns c =
-    let w = c .before .before in
-    let r = w .before .before in
+    let l = c .before .before in
+    let r = l .before .before in
     let a = r .before .before .before .args in
-    lays-told recordBytes recordWidth (a .out .now) (record-told (readOf packedForm (a .checksum) (a .message .now)) (r .read-packed .ensures)) (w .lay-record .ensures)
+    rw (record-told (readOf packedForm (a .checksum) (a .message .now)) (r .read-packed .ensures)) at (l .lay-record .ensures)
 
 pub heron-read-packed-spec : {M : Type 1} → statement M
-heron-read-packed-spec =
-    tie.close (tie.spec read-packed-requires lay-record-requires same-length returns)
+heron-read-packed-spec = tie.close (tie.spec read-packed-requires lay-record-requires same-length returns)

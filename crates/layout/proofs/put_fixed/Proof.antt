@@ -1,33 +1,11 @@
 -- `layout::put_fixed` meets its contract: four writes, each on from where the one before ended; nothing where they do not fit. Assumes nothing.
-use Prim.Native.Nat.{ℕ, _+_, _≤_, _<_}
-use mathlib.Core.List.{List, _++_}
-use mathlib.Core.Path.{_≡_, sym}
-use native.Mathlib.Omega.{arith}
-use lib.ListN.{length, length-append}
-use Rattle.laws.specs.Over.{over}
-use Rattle.laws.proofs.OverLaws.{onto, over-short}
-use Rattle.fixed.specs.declared.Fixed.{Fixed}
+use Rattle.laws.proofs.OverLaws.{last, next, run}
 use Rattle.fixed.proofs.Given.{Long}
-use Rattle.layout.specs.Layout.{lensBytes, fixedBytes}
-use Rattle.layout.proofs.Laws.{lens-long, fixed-long}
+use Rattle.layout.specs.Layout.{fixedBytes, fixedWidth}
+use Rattle.layout.proofs.Laws.{over-nothing, lens-long, fixed-long}
 use borrow.Author.Needs.{needs}
 use Rattle.layout.proofs.put_fixed.Statement.{statement}
 use Rattle.layout.proofs.put_fixed.Tie as tie
-
-module _ (d : List ℕ) (f : Fixed) (l : Long (f .serial) (f .owner) (f .version)) where
-  short : length d < 51 → d ≡ over d 0 (fixedBytes f)
-  short h = sym (over-short d (fixedBytes f) 0 (rw (fixed-long f l) h))
-
-  written : {l1 l2 l3 l4 : List ℕ} → 51 ≤ length d → l1 ≡ over d 0 (f .serial) → l2 ≡ over l1 9 (f .owner) → l3 ≡ over l2 40 (lensBytes f) → l4 ≡ over l3 47 (f .version) →
-      l4 ≡ over d 0 (fixedBytes f)
-  written h p q r t =
-      let s2 = f .serial ++ f .owner in
-      let s3 = s2 ++ lensBytes f in
-      let n2 : 0 + length s2 ≡ 40 = simp (length-append, l .nine, l .thirty-one) in
-      let n3 : 0 + length s3 ≡ 47 = simp (length-append, l .nine, l .thirty-one, lens-long f) in
-      let e2 = onto d (f .serial) (f .owner) 0 9 p q (omega (arith, l .nine)) (omega (arith, l .thirty-one)) in
-      let e3 = onto d s2 (lensBytes f) 0 40 e2 r n2 (omega (arith, lens-long f)) in
-      onto d s3 (f .version) 0 47 e3 t n3 (omega (arith, l .four))
 
 -- by type
 long : (b : tie.Start) → Long (b .args .f .serial) (b .args .f .owner) (b .args .f .version)
@@ -36,7 +14,7 @@ long b = record { nine = search needs; thirty-one = search needs; four = search 
 returns : tie.Need-returns
 returns c =
     let s = c .before .before in
-    short _ (s .args .f) (long s) (c .if1 .taken)
+    over-nothing _ (fixedBytes (s .args .f)) fixedWidth (fixed-long (s .args .f) (long s)) (c .if1 .taken)
 
 slice-aggregate-put-text : tie.Need-slice-aggregate-put-text
 slice-aggregate-put-text c = search needs
@@ -70,7 +48,13 @@ returns-2 c =
     let b1 = b2 .before .before .before .before .before in
     let i = b1 .before .before .before .before .before .before in
     let s = i .before .before in
-    written (s .args .out .now) (s .args .f) (long s) (i .if1 .left) (b1 .put-text .ensures) (b2 .put-text2 .ensures) (b3 .put-lens .ensures) (b4 .put-text3 .ensures)
+    let l = long s in
+    run
+    (next _ (b1 .put-text .ensures) (l .nine)
+    (next _ (b2 .put-text2 .ensures) (l .thirty-one)
+    (next _ (b3 .put-lens .ensures) (lens-long _)
+    (last _ (b4 .put-text3 .ensures) (l .four)))))
+    (i .if1 .left)
 
 pub put-fixed-spec : {M : Type 1} → statement M
 put-fixed-spec =

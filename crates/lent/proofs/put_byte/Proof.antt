@@ -1,7 +1,6 @@
 -- `lent::put_byte` meets its contract: a store is a write of one byte. Assumes nothing.
-use Prim.Native.Nat.{ℕ, _+_, _≤_, _<_}
-use mathlib.Core.List.{List, [], _∷_}
-use mathlib.Core.Path.{_≡_, sym}
+use mathlib.Core.List.{[], _∷_}
+use mathlib.Core.Path.{sym}
 use native.Mathlib.Omega.{arith}
 use borrow.Author.Needs.{needs}
 use Rattle.laws.proofs.OverLaws.{over-short, sets-over}

@@ -1,14 +1,12 @@
 -- `lent::put_text` meets its contract: before each turn the first i bytes of the text are written. Assumes nothing.
-use Prim.Native.Nat.{ℕ, _+_, _-_, _≤_, _<_}
-use mathlib.Core.Bool.{true, false}
-use mathlib.Core.List.{List, append-assoc}
+use Prim.Native.Nat.{_+_, _-_, _≤_}
 use mathlib.Core.Path.{_≡_, refl, sym, ap, _∙_}
 use native.Mathlib.Numerals.{add-one}
 use native.Mathlib.Omega.{arith}
 use borrow.Author.Needs.{needs}
 use borrow.Author.Tests.{leb-true, leb-false, not-true, not-false}
-use lib.ListN.{length, take, drop, length-set}
-use lib.Seq.{paste, paste-zero, paste-suc, length-paste, take-all}
+use lib.ListN.{length, length-set}
+use lib.Seq.{paste, paste-zero, paste-suc}
 use Rattle.laws.proofs.OverLaws.{over-short, paste-over}
 use Rattle.lent.proofs.put_text.Statement.{statement}
 use Rattle.lent.proofs.put_text.Tie as tie

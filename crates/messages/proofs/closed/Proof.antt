@@ -1,6 +1,7 @@
 -- `messages::closed` meets its contract: the ending is written behind the body, and counted. Assumes nothing.
 use native.Mathlib.Omega.{arith}
-use Rattle.messages.proofs.Laws.{narrow, ended}
+use Rattle.frame.proofs.Exactly.{ending-short}
+use Rattle.messages.proofs.Laws.{ended}
 use borrow.Author.Needs.{needs}
 use Rattle.messages.proofs.closed.Statement.{statement}
 use Rattle.messages.proofs.closed.Tie as tie
@@ -15,7 +16,7 @@ ending-width-requires : tie.Need-ending-width-requires
 ending-width-requires c κs = search needs
 
 add-t10 : tie.Need-add-t10
-add-t10 c = omega (arith, narrow (c .before .before .before .before .args .checksum) (c .ending-width .ensures))
+add-t10 c = omega (arith, ending-short (c .before .before .before .before .args .checksum), c .ending-width .ensures)
 
 returns : tie.Need-returns
 returns c =

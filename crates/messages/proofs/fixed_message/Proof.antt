@@ -1,6 +1,6 @@
 -- `messages::fixed_message` meets its contract: the fixed data in a fresh buffer, ended. Assumes nothing.
 use native.Mathlib.Omega.{arith}
-use Rattle.fixed.specs.Form.{fixedForm}
+use Rattle.fixed.specs.Form.{fixedLength, fixedForm}
 use Rattle.fixed.proofs.Given.{Long}
 use Rattle.nwriter.proofs.Printed.{printed-long}
 use Rattle.state.specs.State.{zeros}
@@ -27,7 +27,7 @@ unfolding zeros
 returns c =
     let s = c .before .before .before .before in
     let f = s .args .fixed in
-    closed-is (fixedForm .print f) 65 (printed-long f (lengths s)) (omega arith) (s .args .checksum) (c .closed .ensures) (c .before .before .put-fixed .ensures)
+    closed-is (fixedForm .print f) fixedLength (printed-long f (lengths s)) (omega arith) (s .args .checksum) (c .closed .ensures) (c .before .before .put-fixed .ensures)
 
 pub fixed-message-spec : {M : Type 1} → statement M
 fixed-message-spec =

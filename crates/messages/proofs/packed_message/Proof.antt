@@ -2,7 +2,7 @@
 use mathlib.Core.Path.{_≡_}
 use native.Mathlib.Omega.{arith}
 use lib.ListN.{length}
-use Rattle.record.specs.Forms.{packedForm}
+use Rattle.record.specs.Forms.{packedLength, packedForm}
 use Rattle.packed_writer.proofs.Written.{record-long}
 use Rattle.state.specs.State.{zeros}
 use Rattle.messages.proofs.Laws.{closed-is}
@@ -28,7 +28,7 @@ unfolding zeros
 returns c =
     let b = c .before .before .before .before in
     let r = b .args .r in
-    closed-is (packedForm .print r) 39 (record-long r (nine b)) (omega arith) (b .args .checksum) (c .closed .ensures) (c .before .before .put-packed-record .ensures)
+    closed-is (packedForm .print r) packedLength (record-long r (nine b)) (omega arith) (b .args .checksum) (c .closed .ensures) (c .before .before .put-packed-record .ensures)
 
 pub packed-message-spec : {M : Type 1} → statement M
 packed-message-spec =

@@ -2,7 +2,7 @@
 use mathlib.Core.Path.{_≡_}
 use native.Mathlib.Omega.{arith}
 use lib.ListN.{length}
-use Rattle.record.specs.Forms.{textForm}
+use Rattle.record.specs.Forms.{textLength, textForm}
 use Rattle.text_writer.proofs.Written.{record-long}
 use Rattle.state.specs.State.{zeros}
 use Rattle.messages.proofs.Laws.{closed-is}
@@ -28,7 +28,7 @@ unfolding zeros
 returns c =
     let b = c .before .before .before .before in
     let r = b .args .r in
-    closed-is (textForm .print r) 74 (record-long r (nine b)) (omega arith) (b .args .checksum) (c .closed .ensures) (c .before .before .put-text-record .ensures)
+    closed-is (textForm .print r) textLength (record-long r (nine b)) (omega arith) (b .args .checksum) (c .closed .ensures) (c .before .before .put-text-record .ensures)
 
 pub text-message-spec : {M : Type 1} → statement M
 text-message-spec =

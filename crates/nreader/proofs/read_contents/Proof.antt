@@ -8,8 +8,8 @@ use Rattle.refusal.specs.Answer.{accepted, refused}
 use Rattle.refusal.specs.declared.Refusal.the-variants.{Contents}
 use Rattle.codec.specs.Codec.{Got}
 use Rattle.frame.specs.Message.{found}
-use Rattle.fixed.specs.Fixed.{fixedOf, filled, fixedRead}
-use Rattle.fixed.specs.Form.{fixedForm}
+use Rattle.fixed.specs.Fixed.{fixedFilled, fixedRead}
+use Rattle.fixed.specs.Form.{fixedForm, fixedLength}
 use Rattle.fixed.specs.declared.Fixed.{Fixed}
 use Rattle.fixed.specs.declared.Lens.{Lens}
 use Rattle.fixed.proofs.Given.{Long, filled-items}
@@ -25,8 +25,8 @@ module _ (s : List ℕ) {r : Items} (says : itemsSays s r ≡ fixedForm .parse s
   unfolding itemsSays found
   wrong i e = ap (λ (q : Got Fixed). fixedRead (found q)) (sym (ap (itemsSays s) e) ∙ says)
 
-  right : length s ≡ 65 → (l : Lens) {f : Fixed} → r ≡ items.Found l →
-      f ≡ fixedOf (filled 9 (take 9 (drop 2 s))) (filled 31 (take 31 (drop 12 s))) l (filled 4 (take 4 (drop 61 s))) →
+  right : length s ≡ fixedLength → (l : Lens) {f : Fixed} → r ≡ items.Found l →
+      f ≡ fixedFilled (take 9 (drop 2 s)) (take 31 (drop 12 s)) l (take 4 (drop 61 s)) →
       fixedRead (accepted f) ≡ fixedRead (found (fixedForm .parse s))
   unfolding itemsSays found
   right n l e h =

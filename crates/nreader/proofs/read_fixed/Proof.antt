@@ -1,28 +1,19 @@
 -- `nreader::read_fixed` meets its contract: the frame, then the contents. Assumes nothing.
-use Prim.Native.Nat.{ℕ}
-use mathlib.Core.Bool.{Bool}
-use mathlib.Core.List.{List}
-use mathlib.Core.Path.{_≡_, sym, ap, _∙_}
+use mathlib.Core.Path.{_≡_, sym, _∙_}
 use native.Mathlib.Omega.{arith}
-use lib.ListN.{take}
+use Rattle.laws.proofs.Tests.{at}
 use Rattle.refusal.specs.declared.Verdict.the-variants.{Done}
 use Rattle.frame.specs.Frame.{opening}
-use Rattle.frame.specs.Message.{found, afterwards, readOf}
 use Rattle.frame.proofs.Exactly.{opens}
-use Rattle.frame.proofs.Answers.{reads-refused}
+use Rattle.frame.proofs.Answers.{reads-refused, reads-on}
 use Rattle.fixed.specs.Fixed.{fixedRead}
-use Rattle.fixed.specs.Form.{fixedForm}
+use Rattle.fixed.specs.Form.{fixedLength, fixedForm}
 use Rattle.fixed.proofs.Exact.{fixed-form-width}
 use borrow.Author.Needs.{needs}
 use Rattle.nreader.proofs.read_fixed.Statement.{statement}
 use Rattle.nreader.proofs.read_fixed.Tie as tie
 
--- a message that opens is read on
-reads-on : (checksum : Bool) (m : List ℕ) → opening checksum 65 m ≡ Done → found (fixedForm .parse (take 65 m)) ≡ readOf fixedForm checksum m
-unfolding readOf afterwards
-reads-on checksum m e = rw (fixed-form-width, e)
-
-opened : (c : tie.After-enum-told) → opening (c .before .before .before .before .args .checksum) 65 (c .before .before .before .before .args .m .now) ≡ Done
+opened : (c : tie.After-enum-told) → opening (c .before .before .before .before .args .checksum) fixedLength (c .before .before .before .before .args .m .now) ≡ Done
 opened c = sym (c .before .before .«open» .ensures) ∙ c .enum-told .given .1
 
 open-requires : tie.Need-open-requires
@@ -53,14 +44,10 @@ returns : tie.Need-returns
 returns c =
     let r = c .before .before in
     let o = r .before .before in
-    let a = o .before .before .args in
-    c .refused-fixed .ensures ∙ ap fixedRead (sym (reads-refused fixedForm 65 fixed-form-width (a .checksum) (a .m .now) _ (sym (o .«open» .ensures) ∙ r .r .given .1)))
+    at fixedRead (reads-refused fixedForm fixedLength fixed-form-width _ _ _ (sym (o .«open» .ensures) ∙ r .r .given .1)) (c .refused-fixed .ensures)
 
 returns-2 : tie.Need-returns-2
-returns-2 c =
-    let t = c .before .before in
-    let a = t .before .before .before .before .args in
-    c .read-contents .ensures ∙ ap fixedRead (reads-on (a .checksum) (a .m .now) (opened t))
+returns-2 c = at fixedRead (reads-on fixedForm fixedLength fixed-form-width _ _ (opened (c .before .before))) (c .read-contents .ensures)
 
 pub read-fixed-spec : {M : Type 1} → statement M
 read-fixed-spec =

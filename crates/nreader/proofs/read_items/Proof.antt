@@ -5,9 +5,9 @@ use mathlib.Core.Path.{_≡_, sym, ap, _∙_}
 use Prim.Native.Nat.{ℕ}
 use lib.ListN.{length, take, drop}
 use borrow.Author.Tests.{not-true, not-false}
-use Rattle.codec.specs.Codec.{got}
-use Rattle.fixed.specs.Form.{lens}
-use Rattle.nreader.specs.Reader.{textBehind, lensSays, itemsSays}
+use Rattle.codec.specs.Codec.{got, textBehind}
+use Rattle.fixed.specs.Form.{lensItems, fixedLength}
+use Rattle.nreader.specs.Reader.{lensSays, itemsSays}
 use Rattle.nreader.proofs.Parts.{serial-wrong, owner-wrong, lens-wrong, version-wrong, all-right}
 use borrow.Author.Needs.{needs}
 use Rattle.nreader.proofs.read_items.Statement.{statement}
@@ -17,7 +17,7 @@ use Rattle.nreader.proofs.read_items.Tie as tie
 abbrev S1 : tie.Else1 → List ℕ
 S1 c = c .before .before .before .before .before .args .s .now
 
-long : (c : tie.Else1) → length (S1 c) ≡ 65
+long : (c : tie.Else1) → length (S1 c) ≡ fixedLength
 long c = c .before .before .before .before .before .pre
 
 serial-in : (c : tie.Else1) → textBehind (78 ∷ 83 ∷ []) (take 11 (S1 c)) ≡ true
@@ -26,7 +26,7 @@ serial-in c = sym (c .before .is-behind .ensures) ∙ not-false _ (c .if1 .left)
 owner-in : (c : tie.Else2) → textBehind (79 ∷ []) (take 32 (drop 11 (S1 (c .before .before .before .before)))) ≡ true
 owner-in c = sym (c .before .is-behind2 .ensures) ∙ not-false _ (c .if2 .left)
 
-found : (c : tie.After-enum-told) → lens .parse (take 15 (drop 43 (S1 (c .before .before .before .before .before .before .before .before)))) ≡ got (c .enum-told .given .0 .0)
+found : (c : tie.After-enum-told) → lensItems .parse (take 15 (drop 43 (S1 (c .before .before .before .before .before .before .before .before)))) ≡ got (c .enum-told .given .0 .0)
 unfolding lensSays
 found c = sym (c .before .before .read-lens .ensures) ∙ ap lensSays (c .enum-told .given .1)
 

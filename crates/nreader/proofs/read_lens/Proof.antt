@@ -3,6 +3,7 @@ use mathlib.Core.List.{List}
 use mathlib.Core.Path.{_≡_, sym, ap, _∙_}
 use Prim.Native.Nat.{ℕ}
 use lib.ListN.{length, getD, take, drop}
+use Rattle.digits.specs.Digits.{readDecimal}
 use Rattle.codec.specs.Codec.{got, both, mapped, fieldSays, readTagged}
 use Rattle.fixed.specs.Fixed.{kindOk, letterOk}
 use Rattle.nreader.specs.Reader.{readLetter, letterSays, lensSays}
@@ -35,11 +36,11 @@ gave-kind : (c : tie.After-kind) → letterSays 3 (readLetter 76 kindOk (getD (S
 unfolding letterSays
 gave-kind c = ap (letterSays 3) (sym (c .before .before .read-kind .ensures) ∙ c .kind .given .1)
 
-gave-focal : (c : tie.After-focal) → fieldSays 4 (readTagged 78 999 (take 4 (drop 2 (S4 c)))) ≡ got (c .focal .given .0 .0)
+gave-focal : (c : tie.After-focal) → fieldSays 4 (readTagged 78 (readDecimal 999) (take 4 (drop 2 (S4 c)))) ≡ got (c .focal .given .0 .0)
 unfolding fieldSays
 gave-focal c = ap (fieldSays 4) (sym (c .before .before .read-tagged .ensures) ∙ c .focal .given .1)
 
-gave-maximum : (c : tie.After-maximum) → fieldSays 5 (readTagged 77 999 (take 4 (drop 6 (S5 c)))) ≡ got (c .maximum .given .0 .0)
+gave-maximum : (c : tie.After-maximum) → fieldSays 5 (readTagged 77 (readDecimal 999) (take 4 (drop 6 (S5 c)))) ≡ got (c .maximum .given .0 .0)
 unfolding fieldSays
 gave-maximum c = ap (fieldSays 5) (sym (c .before .before .read-tagged2 .ensures) ∙ c .maximum .given .1)
 
@@ -47,7 +48,7 @@ gave-letter : (c : tie.After-letter) → letterSays 6 (readLetter 85 letterOk (g
 unfolding letterSays
 gave-letter c = ap (letterSays 6) (sym (c .before .before .read-start .ensures) ∙ c .letter .given .1)
 
-gave-transmission : (c : tie.After-transmission) → fieldSays 7 (readTagged 84 99 (take 3 (drop 12 (S7 c)))) ≡ got (c .transmission .given .0 .0)
+gave-transmission : (c : tie.After-transmission) → fieldSays 7 (readTagged 84 (readDecimal 99) (take 3 (drop 12 (S7 c)))) ≡ got (c .transmission .given .0 .0)
 unfolding fieldSays
 gave-transmission c = ap (fieldSays 7) (sym (c .before .before .read-tagged3 .ensures) ∙ c .transmission .given .1)
 

@@ -1,13 +1,9 @@
 -- `nwriter::put_names` meets its contract: each call writes on from where the one before ended. Assumes nothing.
-use Prim.Native.Nat.{ℕ, suc, _+_, _≤_}
-use mathlib.Core.List.{List, [], _∷_, _++_, append-assoc}
-use mathlib.Core.Path.{_≡_, refl, ap, _∙_}
+use mathlib.Core.Path.{_≡_, refl}
 use native.Mathlib.Omega.{arith}
-use lib.ListN.{length, length-append}
-use Rattle.laws.specs.Over.{over}
-use Rattle.laws.proofs.OverLaws.{onto}
+use lib.ListN.{length}
+use Rattle.laws.proofs.OverLaws.{last, next, run}
 use Rattle.fixed.specs.Form.{serial, owner}
-use Rattle.fixed.specs.declared.Fixed.{Fixed}
 use Rattle.nwriter.specs.Parts.{namesText}
 use borrow.Author.Needs.{needs}
 use Rattle.nwriter.proofs.put_names.Statement.{statement}
@@ -19,16 +15,6 @@ long-serial b = search needs
 
 long-owner : (b : tie.Start) → length (b .args .f .owner) ≡ 31
 long-owner b = search needs
-
-written : (d : List ℕ) {l1 l2 l3 l4 : List ℕ} (f : Fixed) → length (f .serial) ≡ 9 → length (f .owner) ≡ 31 → 65 ≤ length d →
-    l1 ≡ over d 0 (78 ∷ 83 ∷ []) → l2 ≡ over l1 2 (f .serial) → l3 ≡ over l2 11 (79 ∷ []) → l4 ≡ over l3 12 (f .owner) → l4 ≡ over d 0 (namesText f)
-unfolding namesText serial owner
-written d f ls lo h p q r t =
-    let s : List ℕ = 78 ∷ 83 ∷ f .serial in
-    let n : length (s ++ (79 ∷ [])) ≡ 12 = length-append s (79 ∷ []) ∙ ap (λ (k : ℕ). suc (suc k) + 1) ls in
-    let a2 = onto d (78 ∷ 83 ∷ []) (f .serial) 0 2 p q refl (omega arith) in
-    let a3 = onto d s (79 ∷ []) 0 11 a2 r (omega arith) (omega arith) in
-    onto d (s ++ (79 ∷ [])) (f .owner) 0 12 a3 t (omega arith) (omega arith) ∙ ap (over d 0) (append-assoc s (79 ∷ []) (f .owner))
 
 put-pair-requires : tie.Need-put-pair-requires
 put-pair-requires c κs = search needs
@@ -52,13 +38,19 @@ same-length : tie.Need-same-length
 same-length c = search needs
 
 returns : tie.Need-returns
+unfolding namesText serial owner
 returns c =
-    let o = c .before .before in
-    let b = o .before .before .before .before .before in
-    let s = b .before .before .before .before in
-    let p = s .before .before .before .before .before in
-    let a = p .before .before .before .before .before in
-    written (a .args .out .now) (a .args .f) (long-serial a) (long-owner a) (a .pre) (p .put-pair .ensures) (s .put-text .ensures) (b .put-byte .ensures) (o .put-text2 .ensures)
+    let w4 = c .before .before in
+    let w3 = w4 .before .before .before .before .before in
+    let w2 = w3 .before .before .before .before in
+    let w1 = w2 .before .before .before .before .before in
+    let b = w1 .before .before .before .before .before in
+    run
+    (next _ (w1 .put-pair .ensures) refl
+    (next _ (w2 .put-text .ensures) (long-serial b)
+    (next _ (w3 .put-byte .ensures) refl
+    (last _ (w4 .put-text2 .ensures) (long-owner b)))))
+    (omega (arith, b .pre))
 
 pub put-names-spec : {M : Type 1} → statement M
 put-names-spec =

@@ -1,48 +1,36 @@
 -- `nwriter::write_fixed` meets its contract: each `return` is a case of every writer's. Assumes nothing.
-use Prim.Native.Nat.{ℕ, _+_, _≤_}
-use mathlib.Core.Bool.{Bool, true, false}
-use mathlib.Core.Path.{_≡_, sym, ap₂, _∙_}
-use native.Mathlib.Omega.{arith}
+use mathlib.Core.Path.{_≡_, refl, sym, _∙_}
 use Rattle.refusal.specs.declared.Refusal.the-variants.{Setting}
-use Rattle.frame.specs.Frame.{endingWidth}
-use Rattle.frame.specs.Message.{needed}
 use Rattle.frame.proofs.Answers.{writes-wrong, writes-short, writes-done}
-use Rattle.fixed.specs.Form.{fixedForm}
+use Rattle.fixed.specs.Form.{fixedForm, fixedLength}
 use Rattle.fixed.proofs.Exact.{fixed-form-exact, fixed-form-width, fixed-lowest}
 use borrow.Author.Needs.{needs}
 use Rattle.nwriter.proofs.write_fixed.Statement.{statement}
 use Rattle.nwriter.proofs.write_fixed.Tie as tie
 
-need : (checksum : Bool) {e : ℕ} → e ≡ endingWidth checksum → 65 + e ≡ needed fixedForm checksum
-need checksum h = ap₂ _+_ (sym fixed-form-width) h
-
-narrow : (checksum : Bool) → endingWidth checksum ≤ 4
-narrow true = omega arith
-narrow false = omega arith
-
 lowest-item-requires : tie.Need-lowest-item-requires
 lowest-item-requires c κs = search needs
 
 returns : tie.Need-returns
-returns c =
-    let i = c .before in
-    let a = i .before .before .args in
-    writes-wrong fixedForm Setting (a .checksum) (a .f) (a .out .now) _ (i .lowest-item .ensures ∙ sym (fixed-lowest (a .f))) (c .if1 .taken)
+returns c = writes-wrong fixedForm Setting _ _ _ _ (c .before .lowest-item .ensures ∙ sym (fixed-lowest _)) (c .if1 .taken)
 
-ending-width-requires : tie.Need-ending-width-requires
-ending-width-requires c κs = search needs
+-- the contents may be sent
+sendable : (c : tie.Else1) → fixedForm .lowest (c .before .before .before .args .f) ≡ 0
+sendable c = fixed-lowest _ ∙ sym (c .before .lowest-item .ensures) ∙ c .if1 .left
 
-add-n : tie.Need-add-n
-add-n c = omega (arith, c .ending-width .ensures, narrow (c .before .before .before .before .args .checksum))
+room-for-requires : tie.Need-room-for-requires
+room-for-requires c κs = search needs
+
+enum-known-answer : tie.Need-enum-known-answer
+enum-known-answer c = search needs
+
+enum-told : tie.Need-enum-told
+enum-told c = search needs
 
 returns-2 : tie.Need-returns-2
 returns-2 c =
-    let e = c .before in
-    let z = e .before in
-    let i = z .before in
-    let a = i .before .before .args in
-    writes-short fixedForm Setting (a .checksum) (a .f) (a .out .now) fixed-form-exact _ _ (i .lowest-item .ensures ∙ sym (fixed-lowest (a .f))) (z .if1 .left)
-    (need (a .checksum) (e .ending-width .ensures)) (c .if2 .taken)
+    let r = c .before .before in
+    writes-short fixedForm Setting _ _ _ (sendable (r .before)) fixedLength fixed-form-width (fixed-form-exact .long _) (r .room-for .ensures) _ (c .enum-told .given .1)
 
 put-fixed-requires : tie.Need-put-fixed-requires
 put-fixed-requires c κs = search needs
@@ -55,15 +43,12 @@ same-length c = search needs
 
 returns-3 : tie.Need-returns-3
 returns-3 c =
-    let w = c .before .before in
-    let p = w .before .before .before .before in
-    let r = p .before .before in
-    let e = r .before in
-    let z = e .before in
-    let i = z .before in
-    let a = i .before .before .args in
-    writes-done fixedForm Setting (a .checksum) (a .f) (a .out .now) fixed-form-exact _ _ (i .lowest-item .ensures ∙ sym (fixed-lowest (a .f))) (z .if1 .left)
-    (need (a .checksum) (e .ending-width .ensures)) 65 fixed-form-width (r .if2 .left) (p .put-fixed .ensures) (w .put-ending .ensures)
+    let e = c .before .before in
+    let p = e .before .before .before .before in
+    let n = p .before .before .before in
+    let r = n .before .before in
+    writes-done fixedForm Setting _ _ _ (sendable (r .before)) fixedLength fixed-form-width (fixed-form-exact .long _) (sym (n .answer .given .1) ∙ r .room-for .ensures) _ refl
+    (p .put-fixed .ensures) (e .put-ending .ensures)
 
 pub write-fixed-spec : {M : Type 1} → statement M
 write-fixed-spec =
@@ -71,8 +56,9 @@ write-fixed-spec =
     (tie.spec
     lowest-item-requires
     returns
-    ending-width-requires
-    add-n
+    room-for-requires
+    enum-known-answer
+    enum-told
     returns-2
     put-fixed-requires
     put-ending-requires

@@ -8,10 +8,10 @@ use mir.Val.{toZ, ofZ}
 use mir.Facts.{toZ-ofZ}
 use Rattle.digits.specs.Digits.{readGroups}
 use Rattle.codec.specs.Codec.{got, fieldSays}
+use Rattle.codec.proofs.Fields.{gave, refused, wrong-first, wrong-later, right-both}
 use Rattle.pupil.specs.Pupil.{readPupilPacked, pupilSays}
 use Rattle.gather.specs.Gather.{threeSays}
-use Rattle.gather.proofs.Laws.{wrong-first, wrong-later, right-both}
-use Rattle.packed_reader.proofs.Parts.{gave, refused, back-parts}
+use Rattle.packed_reader.proofs.Parts.{back-parts}
 use borrow.Author.Needs.{needs}
 use Rattle.packed_reader.proofs.read_back.Statement.{statement}
 use Rattle.packed_reader.proofs.read_back.Tie as tie

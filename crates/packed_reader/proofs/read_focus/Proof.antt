@@ -1,11 +1,8 @@
 -- `packed_reader::read_focus` meets its contract: the tag, and all that follows it. Assumes nothing.
-use mathlib.Core.Path.{refl, ap, _∙_}
 use native.Mathlib.Omega.{arith}
-use Rattle.laws.proofs.Tests.{yes, no}
 use Rattle.digits.specs.Digits.{readGroups}
+use Rattle.codec.proofs.Fields.{untagged, behind-tag}
 use Rattle.record.specs.Record.{topDistance}
-use Rattle.packed_reader.specs.Packed.{readFocus}
-use Rattle.packed_reader.proofs.Parts.{untagged, tagged-so, tail}
 use borrow.Author.Needs.{needs}
 use Rattle.packed_reader.proofs.read_focus.Statement.{statement}
 use Rattle.packed_reader.proofs.read_focus.Tie as tie
@@ -14,8 +11,7 @@ shared-slice-read-if1 : tie.Need-shared-slice-read-if1
 shared-slice-read-if1 c = search needs
 
 returns : tie.Need-returns
-unfolding readFocus
-returns c = no _ (untagged 100 (c .before .before .before .args .s .now) (c .if1 .taken)) refl
+returns c = untagged 100 (readGroups topDistance) _ (c .if1 .taken)
 
 sub-read-groups : tie.Need-sub-read-groups
 sub-read-groups c = search needs
@@ -30,12 +26,10 @@ read-groups-requires : tie.Need-read-groups-requires
 read-groups-requires c κs = search needs
 
 returns-2 : tie.Need-returns-2
-unfolding readFocus
 returns-2 c =
     let e = c .before .before in
     let b = e .before .before .before in
-    let s = b .args .s .now in
-    yes _ (tagged-so 100 s (omega arith) (e .if1 .left)) (c .read-groups .ensures ∙ ap (readGroups topDistance) (tail 1 4 s (b .pre)))
+    behind-tag 100 (readGroups topDistance) _ (omega (arith, b .pre)) (e .if1 .left) (c .read-groups .ensures)
 
 pub read-focus-spec : {M : Type 1} → statement M
 read-focus-spec =

@@ -4,12 +4,12 @@ use mathlib.Core.List.{List}
 use mathlib.Core.Path.{_≡_, sym, _∙_}
 use lib.ListN.{take, drop, getD}
 use Rattle.digits.specs.Digits.{readGroups}
-use Rattle.codec.specs.Codec.{got, fieldSays}
+use Rattle.codec.specs.Codec.{got, fieldSays, readTagged}
+use Rattle.codec.proofs.Fields.{gave, refused, wrong-first, wrong-later, right-both}
+use Rattle.record.specs.Record.{topDistance}
 use Rattle.stop.specs.Stop.{readStop}
 use Rattle.gather.specs.Gather.{fourSays}
-use Rattle.gather.proofs.Laws.{wrong-first, wrong-later, right-both}
-use Rattle.packed_reader.specs.Packed.{readFocus}
-use Rattle.packed_reader.proofs.Parts.{gave, refused, front-parts}
+use Rattle.packed_reader.proofs.Parts.{front-parts}
 use borrow.Author.Needs.{needs}
 use Rattle.packed_reader.proofs.read_front.Statement.{statement}
 use Rattle.packed_reader.proofs.read_front.Tie as tie
@@ -18,7 +18,7 @@ use Rattle.packed_reader.proofs.read_front.Tie as tie
 abbrev bytes1 : tie.After-known-told → List ℕ
 bytes1 c = c .before .before .before .before .before .before .args .s .now
 
-focus-found : (c : tie.After-known-told) → fieldSays 1 (readFocus (take 5 (bytes1 c))) ≡ got (c .before .focus .given .0 .0)
+focus-found : (c : tie.After-known-told) → fieldSays 1 (readTagged 100 (readGroups topDistance) (take 5 (bytes1 c))) ≡ got (c .before .focus .given .0 .0)
 focus-found c = gave 1 (c .before .before .before .read-focus .ensures) (c .before .focus .given .1)
 
 abbrev one : tie.After-known-told2 → tie.After-known-told

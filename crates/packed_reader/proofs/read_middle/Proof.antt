@@ -5,10 +5,10 @@ use mathlib.Core.Path.{_≡_, sym, _∙_}
 use lib.ListN.{take, drop}
 use Rattle.digits.specs.Digits.{readGroups}
 use Rattle.codec.specs.Codec.{got, fieldSays}
+use Rattle.codec.proofs.Fields.{gave, refused, wrong-first, wrong-later, right-both}
 use Rattle.record.specs.Record.{topDistance}
 use Rattle.gather.specs.Gather.{fourSays}
-use Rattle.gather.proofs.Laws.{wrong-first, wrong-later, right-both}
-use Rattle.packed_reader.proofs.Parts.{gave, refused, middle-parts}
+use Rattle.packed_reader.proofs.Parts.{middle-parts}
 use borrow.Author.Needs.{needs}
 use Rattle.packed_reader.proofs.read_middle.Statement.{statement}
 use Rattle.packed_reader.proofs.read_middle.Tie as tie

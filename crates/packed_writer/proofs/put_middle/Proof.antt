@@ -1,23 +1,12 @@
 -- `packed_writer::put_middle` meets its contract: four writes, each on from where the one before ended. Assumes nothing.
-use Prim.Native.Nat.{ℕ, _≤_}
-use mathlib.Core.List.{List}
-use mathlib.Core.Path.{_≡_, refl}
+use mathlib.Core.Path.{refl}
 use native.Mathlib.Omega.{arith}
-use lib.ListN.{length}
-use Rattle.laws.specs.Over.{over}
-use Rattle.digits.specs.Digits.{digits, groups}
-use Rattle.record.specs.Forms.{middlePacked, middleOf}
-use Rattle.record.specs.declared.Figures.{Figures}
-use Rattle.packed_writer.proofs.Written.{four}
+use Rattle.laws.proofs.OverLaws.{last, next, run}
+use Rattle.digits.specs.Digits.{digits}
+use Rattle.record.specs.Forms.{middlePacked}
 use borrow.Author.Needs.{needs}
 use Rattle.packed_writer.proofs.put_middle.Statement.{statement}
 use Rattle.packed_writer.proofs.put_middle.Tie as tie
-
-written : (d : List ℕ) {l1 l2 l3 l4 : List ℕ} (f : Figures) → 39 ≤ length d → l1 ≡ over d 9 (groups 2 (f .focal)) → l2 ≡ over l1 11 (groups 4 (f .hyperfocal)) →
-    l3 ≡ over l2 15 (groups 4 (f .near)) → l4 ≡ over l3 19 (groups 4 (f .far)) → l4 ≡ over d 9 (middlePacked .print (middleOf f))
-unfolding middlePacked digits
-written d f h p q r x =
-    four d (groups 2 (f .focal)) (groups 4 (f .hyperfocal)) (groups 4 (f .near)) 9 11 15 p q r refl refl (groups 4 (f .far)) 19 x refl (omega arith)
 
 put-groups-requires : tie.Need-put-groups-requires
 put-groups-requires c κs = search needs
@@ -35,13 +24,18 @@ same-length : tie.Need-same-length
 same-length c = search needs
 
 returns : tie.Need-returns
+unfolding middlePacked digits
 returns c =
-    let b4 = c .before .before in
-    let b3 = b4 .before .before .before .before in
-    let b2 = b3 .before .before .before .before in
-    let b1 = b2 .before .before .before .before in
-    let s = b1 .before .before .before in
-    written (s .args .out .now) (s .args .f) (s .pre) (b1 .put-groups .ensures) (b2 .put-groups2 .ensures) (b3 .put-groups3 .ensures) (b4 .put-groups4 .ensures)
+    let w4 = c .before .before in
+    let w3 = w4 .before .before .before .before in
+    let w2 = w3 .before .before .before .before in
+    let w1 = w2 .before .before .before .before in
+    run
+    (next _ (w1 .put-groups .ensures) refl
+    (next _ (w2 .put-groups2 .ensures) refl
+    (next _ (w3 .put-groups3 .ensures) refl
+    (last _ (w4 .put-groups4 .ensures) refl))))
+    (omega (arith, w1 .before .before .before .pre))
 
 pub put-middle-spec : {M : Type 1} → statement M
 put-middle-spec =

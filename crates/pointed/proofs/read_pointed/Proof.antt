@@ -7,7 +7,7 @@ use borrow.Author.Needs.{needs}
 use borrow.Author.Tests.{le-leb, lt-leb, lt-ltb, le-ltb}
 use lib.ListN.{length, take, drop, length-drop}
 use lib.Seq.{take-all, length-take-le}
-use Rattle.laws.proofs.Tests.{yes, no, cond-yes, cond-no, told}
+use Rattle.laws.proofs.Tests.{yes, no, cond-yes, cond-no, told, never}
 use Rattle.digits.specs.Digits.{readDecimal}
 use Rattle.digits.specs.declared.Field.{Field}
 use Rattle.digits.specs.declared.Field.the-variants.{Value, Wrong}
@@ -21,12 +21,12 @@ use Rattle.pointed.proofs.read_pointed.Tie as tie
 decimal-low : (top n : ℕ) (s : List ℕ) → readDecimal top s ≡ Value n → n ≤ top
 decimal-low top n s e = digits-read 10 48 (omega arith) s n top e .0
 
-tagged-low : (t top n : ℕ) (s : List ℕ) → readTagged t top s ≡ Value n → n ≤ top
+tagged-low : (t top n : ℕ) (s : List ℕ) → readTagged t (readDecimal top) s ≡ Value n → n ≤ top
 unfolding readTagged
 tagged-low t top n s e =
     told (begins t s)
     (λ y. decimal-low top n (drop 1 s) (sym (cond-yes _ Wrong y) ∙ e))
-    (λ no. absurd (let z : Wrong ≡ Value n = sym (cond-no _ Wrong no) ∙ e in let y : _≡_ {A = ℕ} 0 1 = cc in omega arith))
+    (λ no. let z : Wrong ≡ Value n = sym (cond-no _ Wrong no) ∙ e in never (cc))
 
 module _ (top : ℕ) (s : List ℕ) where
   abbrev whole : Field
@@ -37,7 +37,7 @@ module _ (top : ℕ) (s : List ℕ) where
   rest = take (length s - (length s - 2)) (drop (length s - 2) s)
 
   -- what the two parts said, joined
-  joins : {f g : Field} → 2 ≤ length s → whole ≡ f → readTagged point 9 rest ≡ g → joined top f g ≡ readPointed top s
+  joins : {f g : Field} → 2 ≤ length s → whole ≡ f → readTagged point (readDecimal 9) rest ≡ g → joined top f g ≡ readPointed top s
   unfolding readPointed
   joins h e f =
       let all : rest ≡ drop (length s - 2) s = take-all (length s - (length s - 2)) (drop (length s - 2) s) (simp length-drop (omega arith)) in
@@ -96,7 +96,7 @@ first c = c .before .before .before .before .before
 gave-whole : (c : tie.After-whole) → whole (start c .args .top) (start c .args .s .now) ≡ Value (c .whole .given .0 .0)
 gave-whole c = sym (c .before .before .read-decimal .ensures) ∙ c .whole .given .1
 
-gave-tenth : (c : tie.After-tenth) → readTagged point 9 (rest (start (first c) .args .top) (start (first c) .args .s .now)) ≡ Value (c .tenth .given .0 .0)
+gave-tenth : (c : tie.After-tenth) → readTagged point (readDecimal 9) (rest (start (first c) .args .top) (start (first c) .args .s .now)) ≡ Value (c .tenth .given .0 .0)
 gave-tenth c = sym (c .before .before .read-tagged .ensures) ∙ c .tenth .given .1
 
 low : (c : tie.After-tenth) → (first c .whole .given .0 .0 ≤ start (first c) .args .top / 10) × (c .tenth .given .0 .0 ≤ 9)

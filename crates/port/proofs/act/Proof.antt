@@ -1,16 +1,15 @@
 -- `port::act` meets its contract: rule 2, by whether the command has a reply. Assumes nothing.
-use Prim.Native.Nat.{ℕ, suc}
-use mathlib.Core.Bool.{Bool, true, false}
+use Prim.Native.Nat.{ℕ}
+use mathlib.Core.Bool.{true}
 use mathlib.Core.List.{List, [], _∷_}
-use mathlib.Core.Path.{_≡_, refl, sym, ap, subst, _∙_}
+use mathlib.Core.Path.{_≡_, refl, sym, ap, _∙_}
 use native.Mathlib.Omega.{arith}
 use lib.ListN.{length}
 use Rattle.state.specs.declared.Last.{Last}
-use Rattle.state.specs.declared.Message.{Message}
 use Rattle.state.specs.declared.Source.{Source}
 use Rattle.state.specs.declared.Waiting.{Waiting}
-use Rattle.state.specs.State.{messageOf, validSource}
-use Rattle.rules.specs.Does.{Done, does, counts}
+use Rattle.state.specs.State.{unsent, validSource}
+use Rattle.rules.specs.Does.{does, counts}
 use Rattle.rules.proofs.Kept.{does-valid}
 use Rattle.reply.specs.declared.Acted.{Acted}
 use Rattle.reply.specs.Reply.{actedOf}
@@ -28,7 +27,7 @@ none p s [] k e = refl
 none p s (b ∷ bs) k e = absurd (omega arith)
 
 -- a reply: it starts
-some : (p : Port) (s : Source) (xs : List ℕ) (k : Last) → (length xs ≡ 0 → ⊥) → answers p s xs k ≡ begunWith s (messageOf xs) k nobody
+some : (p : Port) (s : Source) (xs : List ℕ) (k : Last) → (length xs ≡ 0 → ⊥) → answers p s xs k ≡ begunWith s (unsent xs) k nobody
 unfolding answers
 some p s [] k n = absurd (n refl)
 some p s (b ∷ bs) k n = refl

@@ -1,5 +1,4 @@
 -- `port::advance` meets its contract: the message under way, then the rules. Assumes nothing.
-use mathlib.Core.Path.{_≡_}
 use native.Mathlib.Omega.{arith}
 use borrow.Author.Tests.{lt-ltb, le-ltb}
 use Rattle.laws.proofs.Tests.{yes, no}

@@ -1,5 +1,5 @@
 -- `port::begin_record` meets its contract. Assumes nothing.
-use mathlib.Core.Path.{_≡_, ap, _∙_}
+use mathlib.Core.Path.{ap, _∙_}
 use Rattle.state.specs.declared.Message.{Message}
 use Rattle.state.specs.declared.Last.the-variants as last
 use Rattle.port.specs.Port.{begunWith, beginsRecord}

@@ -1,6 +1,6 @@
 -- `port::choose` meets its contract: rules 1 to 4, in this order. Assumes nothing.
-use mathlib.Core.Bool.{Bool, _&&_}
-use mathlib.Core.Path.{_≡_, refl, sym, ap₂, _∙_}
+use mathlib.Core.Bool.{_&&_}
+use mathlib.Core.Path.{_≡_, sym, ap₂, _∙_}
 use Rattle.laws.proofs.Tests.{yes, no}
 use Rattle.rules.specs.Does.{continuous}
 use Rattle.port.specs.Port.{isReply, chooseOf}

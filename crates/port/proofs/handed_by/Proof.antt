@@ -1,5 +1,5 @@
 -- `port::handed_by` meets its contract. Assumes nothing.
-use mathlib.Core.Path.{_≡_, refl}
+use mathlib.Core.Path.{refl}
 use Rattle.laws.proofs.Tests.{at}
 use Rattle.refusal.specs.declared.Verdict.{Verdict}
 use Rattle.port.specs.Port.{handed}

@@ -2,7 +2,6 @@
 use mathlib.Core.Bool.{false}
 use mathlib.Core.Path.{ap}
 use Rattle.line.specs.declared.Line.{Line}
-use Rattle.state.specs.declared.Waiting.{Waiting}
 use borrow.Author.Needs.{needs}
 use Rattle.port.proofs.nobody_waits.Statement.{statement}
 use Rattle.port.proofs.nobody_waits.Tie as tie

@@ -1,5 +1,5 @@
 -- `port::rest` meets its contract: rules 3 and 4. Assumes nothing.
-use mathlib.Core.Path.{_≡_, refl, sym, _∙_}
+use mathlib.Core.Path.{refl, sym, _∙_}
 use Rattle.laws.proofs.Tests.{yes, no}
 use Rattle.port.specs.Port.{restOf}
 use borrow.Author.Needs.{needs}

@@ -1,5 +1,5 @@
 -- `port::send_from` meets its contract. Assumes nothing.
-use mathlib.Core.Path.{_≡_, ap}
+use mathlib.Core.Path.{ap}
 use lib.ListN.{getD}
 use Rattle.port.specs.declared.Port.{Port}
 use Rattle.port.specs.declared.Sent.the-variants as sent

@@ -1,6 +1,6 @@
 -- `port::sent_up_to` meets its contract: at the end of the message the rate moves, before it the source stays. Assumes nothing.
 use Prim.Native.Nat.{ℕ}
-use mathlib.Core.Path.{_≡_, refl, ap}
+use mathlib.Core.Path.{refl, ap}
 use borrow.Author.Tests.{eq-eqb, ne-eqb}
 use Rattle.laws.proofs.Tests.{yes, no}
 use Rattle.state.specs.declared.Source.{Source}

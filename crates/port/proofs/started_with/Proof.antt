@@ -1,15 +1,12 @@
 -- `port::started_with` meets its contract. Assumes nothing.
 use Prim.Native.Nat.{ℕ}
-use mathlib.Core.Bool.{false}
-use mathlib.Core.Path.{_≡_, _∙_, ap}
+use mathlib.Core.Path.{_≡_, sym, ap, _∙_}
 use Rattle.fixed.specs.declared.Settings.{Settings}
 use Rattle.units.specs.declared.Measurement.{Measurement}
-use Rattle.state.specs.declared.State.the-variants as state
-use Rattle.state.specs.declared.Sending.the-variants as sending
-use Rattle.state.specs.declared.Last.the-variants as last
 use Rattle.state.specs.declared.Message.{Message}
 use Rattle.state.specs.declared.Waiting.{Waiting}
-use Rattle.port.specs.declared.Port.{Port}
+use Rattle.state.specs.State.{unsent}
+use Rattle.rules.proofs.Lengths.{greeting-is}
 use Rattle.port.specs.Port.{startedWith}
 use borrow.Author.Needs.{needs}
 use Rattle.port.proofs.started_with.Statement.{statement}
@@ -18,8 +15,8 @@ use Rattle.port.proofs.started_with.Tie as tie
 unit-of-requires : tie.Need-unit-of-requires
 unit-of-requires c κs = search needs
 
-greeting-message-requires : tie.Need-greeting-message-requires
-greeting-message-requires c κs = search needs
+letter-message-requires : tie.Need-letter-message-requires
+letter-message-requires c κs = search needs
 
 nobody-waits-requires : tie.Need-nobody-waits-requires
 nobody-waits-requires c κs = search needs
@@ -33,8 +30,8 @@ returns c =
     let g = c .before in
     let u = g .before in
     let a = u .before .before .args in
-    three (a .settings) (a .measurement) (u .unit-of .ensures) (g .greeting-message .ensures) (c .nobody-waits .ensures)
+    three (a .settings) (a .measurement) (u .unit-of .ensures) (g .letter-message .ensures ∙ ap unsent (sym greeting-is)) (c .nobody-waits .ensures)
 
 pub started-with-spec : {M : Type 1} → statement M
 started-with-spec =
-    tie.close (tie.spec unit-of-requires greeting-message-requires nobody-waits-requires returns)
+    tie.close (tie.spec unit-of-requires letter-message-requires nobody-waits-requires returns)

@@ -1,11 +1,9 @@
 -- `port::taken` meets its contract. Assumes nothing.
-use mathlib.Core.Bool.{true}
-use mathlib.Core.Path.{_≡_, refl, ap}
+use mathlib.Core.Path.{ap}
 use Rattle.laws.proofs.Tests.{yes, no}
 use Rattle.refusal.specs.declared.Refusal.the-variants as refusal
 use Rattle.refusal.specs.declared.Verdict.the-variants.{Done, Refused}
 use Rattle.line.specs.declared.Line.{Line}
-use Rattle.port.specs.declared.Received.{Received}
 use Rattle.port.specs.Port.{takenPort, takenOf}
 use borrow.Author.Needs.{needs}
 use Rattle.port.proofs.taken.Statement.{statement}

@@ -1,6 +1,6 @@
 -- `pupil::pupil_code` meets its contract: below zero the size has the sign's bit on top. Assumes nothing.
 use Prim.Native.Nat.{ℕ, _+_, _≤_, _^_}
-use mathlib.Core.Path.{_≡_, refl, sym, ap, _∙_}
+use mathlib.Core.Path.{sym, ap, _∙_}
 use native.Mathlib.Omega.{arith}
 use lib.IntN.{ℤ, pos, negsuc}
 use mir.Syntax.{w32}

@@ -1,6 +1,6 @@
 -- `pupil::put_pupil_packed` meets its contract. Assumes nothing.
 use Prim.Native.Nat.{ℕ}
-use mathlib.Core.Path.{_≡_, refl, sym, ap, _∙_}
+use mathlib.Core.Path.{ap, _∙_}
 use mir.Facts.{toZ-ofZ}
 use Rattle.laws.specs.Over.{over}
 use Rattle.digits.specs.Digits.{groups}

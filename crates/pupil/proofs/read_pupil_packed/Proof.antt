@@ -1,5 +1,5 @@
 -- `pupil::read_pupil_packed` meets its contract: each `return` is a case of `readPupilPacked`. Assumes nothing.
-use mathlib.Core.Path.{_≡_, refl, sym, ap, _∙_}
+use mathlib.Core.Path.{refl, sym, _∙_}
 use borrow.Author.Tests.{eq-eqb, ne-eqb}
 use Rattle.laws.proofs.Tests.{yes, no, at}
 use Rattle.pupil.specs.Pupil.{codeIn, readPupilPacked}

@@ -1,5 +1,5 @@
 -- `pupil::read_pupil_text` meets its contract: each `return` is a case of `readPupilText`. Assumes nothing.
-use mathlib.Core.Path.{_≡_, refl, sym, _∙_}
+use mathlib.Core.Path.{refl, sym, _∙_}
 use borrow.Author.Tests.{eq-eqb, ne-eqb, not-true, not-false}
 use Rattle.laws.proofs.Tests.{yes, no, at}
 use Rattle.pupil.specs.Pupil.{signedIn, readPupilText}

@@ -1,5 +1,5 @@
 -- `pupil::sign_byte` meets its contract. Assumes nothing.
-use mathlib.Core.Path.{_≡_, refl, sym, ap, _∙_}
+use mathlib.Core.Path.{refl, sym, ap, _∙_}
 use mir.Facts.{toZ-ofZ}
 use Rattle.sign.specs.Sign.{below0}
 use Rattle.laws.proofs.Tests.{yes, no}

@@ -1,6 +1,5 @@
 -- `pupil::signed_field` meets its contract: each `return` is a case of `sentSo`. Assumes nothing.
-use mathlib.Core.Bool.{true, false}
-use mathlib.Core.Path.{_≡_, refl, sym, ap, _∙_}
+use mathlib.Core.Path.{_≡_, ap}
 use mir.Facts.{toZ-ofZ}
 use borrow.Author.Tests.{le-leb, lt-leb}
 use Rattle.pupil.specs.declared.Signed.the-variants.{Number}

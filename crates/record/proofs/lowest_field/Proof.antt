@@ -1,25 +1,17 @@
 -- `record::lowest_field` meets its contract: the figures, then the serial. Assumes nothing.
-use Prim.Native.Nat.{ℕ}
-use mathlib.Core.Bool.{Bool, true, false, _&&_}
-use mathlib.Core.Path.{_≡_, sym, ap, _∙_}
-use mathlib.Core.List.{List}
-use lib.Dec.{eqb}
+use mathlib.Core.Path.{_≡_, sym, _∙_}
 use lib.ListN.{length}
-use borrow.Author.Tests.{eq-eqb, not-true, not-false}
-use Rattle.codec.specs.Codec.{printable}
+use borrow.Author.Tests.{not-true, not-false}
+use Rattle.codec.proofs.Texts.{text-fine}
 use Rattle.codec.proofs.Lowest.{some-here, none-here, wrong-last, right-last}
 use Rattle.record.specs.Record.{recordLowest}
 use borrow.Author.Needs.{needs}
 use Rattle.record.proofs.lowest_field.Statement.{statement}
 use Rattle.record.proofs.lowest_field.Tie as tie
 
--- nine bytes, by type
+-- nine bytes, by type, so only the bytes are tested
 long : (b : tie.Start) → length (b .args .r .serial) ≡ 9
 long b = search needs
-
--- so only the bytes are tested
-untold : (s : List ℕ) (b : Bool) → length s ≡ 9 → printable s ≡ b → (eqb (length s) 9 && printable s) ≡ b
-untold s b l e = rw (eq-eqb (length s) 9 l) e
 
 lowest-figure-requires : tie.Need-lowest-figure-requires
 lowest-figure-requires c κs = search needs
@@ -41,7 +33,7 @@ returns-2 c =
     let a = t .before .before .before in
     let b = a .before .before .before in
     none-here (a .before .lowest-figure .ensures) (a .if1 .left)
-    (wrong-last 12 (untold (b .args .r .serial) _ (long b) (sym (t .is-text .ensures) ∙ not-true _ (c .if2 .taken))))
+    (wrong-last 12 (sym (text-fine 9 (b .args .r .serial) (long b) (t .is-text .ensures)) ∙ not-true _ (c .if2 .taken)))
 
 returns-3 : tie.Need-returns-3
 unfolding recordLowest
@@ -50,7 +42,7 @@ returns-3 c =
     let a = t .before .before .before in
     let b = a .before .before .before in
     none-here (a .before .lowest-figure .ensures) (a .if1 .left)
-    (right-last 12 (untold (b .args .r .serial) _ (long b) (sym (t .is-text .ensures) ∙ not-false _ (c .if2 .left))))
+    (right-last 12 (sym (text-fine 9 (b .args .r .serial) (long b) (t .is-text .ensures)) ∙ not-false _ (c .if2 .left)))
 
 pub lowest-field-spec : {M : Type 1} → statement M
 lowest-field-spec =

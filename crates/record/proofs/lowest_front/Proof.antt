@@ -1,5 +1,5 @@
 -- `record::lowest_front` meets its contract: each `return` is a step of the chain. Assumes nothing.
-use mathlib.Core.Path.{_≡_, sym, _∙_}
+use mathlib.Core.Path.{sym, _∙_}
 use borrow.Author.Tests.{le-leb, lt-leb, not-true, not-false}
 use Rattle.codec.proofs.Lowest.{wrong-here, right-here, wrong-last, right-last}
 use Rattle.record.specs.Record.{frontLowest}

@@ -2,7 +2,7 @@
 use mathlib.Core.Path.{sym, ap, subst, _∙_}
 use Rattle.laws.proofs.Tests.{at}
 use Rattle.line.specs.declared.Command.{Command}
-use Rattle.line.specs.Command.{InRange, commandOf}
+use Rattle.line.specs.Command.{InRange}
 use Rattle.line.proofs.Laws.{command-range}
 use Rattle.state.specs.declared.State.{State}
 use Rattle.rules.specs.Does.{readies, runs, doesIn, does}
@@ -33,14 +33,14 @@ returns : tie.Need-returns
 unfolding does doesIn
 returns c =
     let a = c .before .before .before .before .before .args in
-    at (λ (k : State). actedOf (doesIn k (a .source) (commandOf (a .line)))) (c .before .enum-told .given .1)
+    at (λ (k : State). actedOf (doesIn k (a .source) (a .line))) (c .before .enum-told .given .1)
     (c .ready .ensures ∙ ap (λ (k : Command). actedOf (readies (a .source) k)) (c .before .before .before .before .command .ensures))
 
 returns-2 : tie.Need-returns-2
 unfolding does doesIn
 returns-2 c =
     let a = c .before .before .before .before .before .args in
-    at (λ (k : State). actedOf (doesIn k (a .source) (commandOf (a .line)))) (c .before .enum-told2 .given .1)
+    at (λ (k : State). actedOf (doesIn k (a .source) (a .line))) (c .before .enum-told2 .given .1)
     (c .running .ensures ∙ ap (λ (k : Command). actedOf (runs (a .source) k)) (c .before .before .before .before .command .ensures))
 
 pub act-spec : {M : Type 1} → statement M

@@ -1,7 +1,6 @@
 -- `reply::counts` meets its contract: by the state, on the command that the line is. Assumes nothing.
 use mathlib.Core.Path.{refl, ap, _∙_}
 use Rattle.laws.proofs.Tests.{at}
-use Rattle.line.specs.Command.{commandOf}
 use Rattle.state.specs.declared.State.{State}
 use Rattle.rules.specs.Does as table
 use borrow.Author.Needs.{needs}
@@ -24,13 +23,13 @@ returns : tie.Need-returns
 unfolding table.counts table.countsIn
 returns c =
     let a = c .before .before .before .before .before .args in
-    at (λ (k : State). table.countsIn k (commandOf (a .line))) (c .before .enum-told .given .1) (c .is-n .ensures ∙ ap table.isN (c .before .before .before .before .command .ensures))
+    at (λ (k : State). table.countsIn k (a .line)) (c .before .enum-told .given .1) (c .is-n .ensures ∙ ap table.isN (c .before .before .before .before .command .ensures))
 
 returns-2 : tie.Need-returns-2
 unfolding table.counts table.countsIn
 returns-2 c =
     let a = c .before .before .before .before .args in
-    at (λ (k : State). table.countsIn k (commandOf (a .line))) (c .enum-told2 .given .1) refl
+    at (λ (k : State). table.countsIn k (a .line)) (c .enum-told2 .given .1) refl
 
 pub counts-spec : {M : Type 1} → statement M
 counts-spec =

@@ -1,4 +1,5 @@
 -- `reply::rate` meets its contract: the rate that follows, beside the source after it. Assumes nothing.
+use Rattle.rules.specs.Does.{runs}
 use Rattle.reply.proofs.Laws.{answered}
 use borrow.Author.Needs.{needs}
 use Rattle.reply.proofs.rate.Statement.{statement}
@@ -11,6 +12,7 @@ rate-message-requires : tie.Need-rate-message-requires
 rate-message-requires c κs = search needs
 
 returns : tie.Need-returns
+unfolding runs
 returns c = answered _ _ (c .rate-message .ensures)
 
 pub rate-spec : {M : Type 1} → statement M

@@ -7,20 +7,20 @@ use Rattle.record.specs.declared.Record.{Record}
 use Rattle.state.specs.declared.Message.{Message}
 use Rattle.state.specs.declared.Sending.{Sending}
 use Rattle.state.specs.declared.Source.{Source}
-use Rattle.state.specs.State.{messageOf}
+use Rattle.state.specs.State.{unsent}
 use Rattle.rules.specs.Does.{recordIs}
 use borrow.Author.Needs.{needs}
 use Rattle.reply.proofs.record_in.Statement.{statement}
 use Rattle.reply.proofs.record_in.Tie as tie
 
 abbrev built : Source → Sending → Message
-built s k = messageOf (framed (s .modes .checksum) (recordIs k s))
+built s k = unsent (framed (s .modes .checksum) (recordIs k s))
 
 abbrev text : Source → Record → Message
-text s r = messageOf (framed (s .modes .checksum) (textForm .print r))
+text s r = unsent (framed (s .modes .checksum) (textForm .print r))
 
 abbrev packed : Source → Record → Message
-packed s r = messageOf (framed (s .modes .checksum) (packedForm .print r))
+packed s r = unsent (framed (s .modes .checksum) (packedForm .print r))
 
 record-now-requires : tie.Need-record-now-requires
 record-now-requires c κs = search needs

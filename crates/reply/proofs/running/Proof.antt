@@ -2,7 +2,7 @@
 use Rattle.laws.proofs.Tests.{at}
 use Rattle.line.specs.declared.Command.{Command}
 use Rattle.state.specs.declared.Source.{Source}
-use Rattle.rules.specs.Does.{recordIs, runs}
+use Rattle.rules.specs.Does.{runs}
 use Rattle.reply.specs.Reply.{actedOf}
 use Rattle.reply.specs.declared.Acted.{Acted}
 use borrow.Author.Needs.{needs}
@@ -129,7 +129,7 @@ unfolding runs
 returns-2 c = at (acts (c .before .before .before .args .source)) (c .before .enum-told2 .given .1) (c .sending-on .ensures)
 
 returns-3 : tie.Need-returns-3
-unfolding runs recordIs
+unfolding runs
 returns-3 c = at (acts (c .before .before .before .args .source)) (c .before .enum-told3 .given .1) (c .record-reply .ensures)
 
 returns-4 : tie.Need-returns-4
@@ -153,7 +153,7 @@ unfolding runs
 returns-8 c = at (acts (c .before .before .before .args .source)) (c .before .enum-told7 .given .1) (c .sending-on2 .ensures)
 
 returns-9 : tie.Need-returns-9
-unfolding runs recordIs
+unfolding runs
 returns-9 c = at (acts (c .before .before .before .args .source)) (c .before .enum-told8 .given .1) (c .record-reply2 .ensures)
 
 returns-10 : tie.Need-returns-10

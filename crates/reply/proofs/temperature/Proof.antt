@@ -6,7 +6,7 @@ use mir.Syntax.{w32}
 use mir.Val.{toZ, ofZ}
 use mir.Facts.{toZ-ofZ}
 use Rattle.frame.specs.Frame.{framed}
-use Rattle.state.specs.State.{messageOf}
+use Rattle.state.specs.State.{unsent}
 use Rattle.units.specs.Measurement.{degrees}
 use Rattle.reply.proofs.Laws.{answered}
 use borrow.Author.Needs.{needs}
@@ -25,7 +25,7 @@ returns c =
     let m = c .before .before in
     let s = m .before .before .args .source in
     answered s (80 ∷ degrees (s .measurement .temperature))
-    (c .degrees-message .ensures ∙ ap (λ (t : ℤ). messageOf (framed (s .modes .checksum) (80 ∷ degrees t))) (own m))
+    (c .degrees-message .ensures ∙ ap (λ (t : ℤ). unsent (framed (s .modes .checksum) (80 ∷ degrees t))) (own m))
 
 pub temperature-spec : {M : Type 1} → statement M
 temperature-spec = tie.close (tie.spec degrees-message-requires returns)

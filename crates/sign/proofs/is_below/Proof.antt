@@ -1,11 +1,6 @@
 -- `sign::is_below` meets its contract: the comparison with 0, on signed values. Assumes nothing.
-use mathlib.Core.Path.{_≡_, refl, ap, _∙_}
-use mathlib.Core.Bool.{Bool}
-use lib.IntN.{ℤ, pos, negsuc}
-use lib.Signed.{ltZ}
 use Rattle.sign.proofs.Law.{below-is}
 use mir.Facts.{toZ-ofZ}
-use Rattle.sign.specs.Sign.{below0}
 use Rattle.sign.proofs.is_below.Statement.{statement}
 use Rattle.sign.proofs.is_below.Tie as tie
 

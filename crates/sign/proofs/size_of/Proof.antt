@@ -1,12 +1,8 @@
 -- `sign::size_of` meets its contract: widened to 64 bits the number has an opposite, which is its size where it is below zero.
 -- Assumes nothing.
-use mathlib.Core.Path.{_≡_, refl, sym, ap, _∙_}
-use mathlib.Core.Bool.{true, false}
-use lib.IntN.{ℤ, pos, natAbs}
-use lib.Signed.{ltZ}
-use mir.Val.{Fits}
-use Rattle.sign.specs.Sign.{size}
-use Rattle.sign.proofs.Law.{wide, widens, widened, Opposite, opposite-of, Itself, itself-of}
+use mathlib.Core.Path.{ap}
+use lib.IntN.{natAbs}
+use Rattle.sign.proofs.Law.{widens, widened, Opposite, opposite-of, Itself, itself-of}
 use Rattle.sign.proofs.size_of.Statement.{statement}
 use Rattle.sign.proofs.size_of.Tie as tie
 

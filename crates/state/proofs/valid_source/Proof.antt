@@ -1,5 +1,4 @@
 -- `state::valid_source` meets its contract: a test that fails decides, wherever it stands among the three. Assumes nothing.
-use Prim.Native.Nat.{ℕ}
 use mathlib.Core.Bool.{Bool, true, false}
 use mathlib.Core.Path.{_≡_, sym, ap, _∙_}
 use borrow.Author.Needs.{needs}
@@ -53,8 +52,8 @@ returns-2 c =
     let f = c .before .before .before in
     by-modes (f .before .before .before .before .args .s) (sym (c .before .valid-modes .ensures) ∙ not-true _ (c .if2 .taken))
 
-lowest-setting-requires : tie.Need-lowest-setting-requires
-lowest-setting-requires c κs = search needs
+are-settings-requires : tie.Need-are-settings-requires
+are-settings-requires c κs = search needs
 
 returns-3 : tie.Need-returns-3
 returns-3 c =
@@ -64,7 +63,7 @@ returns-3 c =
     by-settings (f .before .before .before .before .args .s)
     (measured (f .before) ∙ not-false _ (f .if1 .left))
     (sym (v .valid-modes .ensures) ∙ not-false _ (e .if2 .left))
-    (ap (λ (n : ℕ). eqb n 0) (c .lowest-setting .ensures))
+    (c .are-settings .ensures)
 
 pub valid-source-spec : {M : Type 1} → statement M
 valid-source-spec =
@@ -75,5 +74,5 @@ valid-source-spec =
     returns
     valid-modes-requires
     returns-2
-    lowest-setting-requires
+    are-settings-requires
     returns-3)

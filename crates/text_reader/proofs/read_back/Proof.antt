@@ -3,13 +3,12 @@ use Prim.Native.Nat.{ℕ}
 use mathlib.Core.List.{List}
 use mathlib.Core.Path.{_≡_, sym, ap, _∙_}
 use lib.ListN.{take, drop}
-use Rattle.codec.specs.Codec.{got, fieldSays}
-use Rattle.pupil.specs.Pupil.{pupilText, pupilSays}
+use Rattle.codec.specs.Codec.{got, fieldSays, readTagged}
+use Rattle.codec.proofs.Fields.{gave, refused, wrong-first, wrong-later, right-both}
+use Rattle.pointed.specs.Pointed.{readPointed}
+use Rattle.pupil.specs.Pupil.{readPupilText, pupilSays}
 use Rattle.gather.specs.Gather.{threeSays}
-use Rattle.gather.proofs.Laws.{answered, wrong-first, wrong-later, right-both}
-use Rattle.text_reader.specs.Text.{viewTagged}
-use Rattle.text_reader.proofs.Chains.{number-says}
-use Rattle.text_reader.proofs.Parts.{back-parts, pupil-says}
+use Rattle.text_reader.proofs.Parts.{back-parts}
 use mir.Syntax.{w32}
 use mir.Val.{toZ, ofZ}
 use mir.Facts.{toZ-ofZ}
@@ -24,13 +23,12 @@ S1 d = d .before .before .before .before .before .args .s .now
 abbrev S2 : tie.After-pupil → List ℕ
 S2 d = S1 (d .before .before .before .before .before)
 
-view-found : (d : tie.After-view) → viewTagged .parse (take 6 (S1 d)) ≡ got (d .view .given .0 .0)
-unfolding fieldSays
-view-found d = answered (fieldSays 9) (d .before .before .read-view .ensures) (d .view .given .1)
+view-found : (d : tie.After-view) → fieldSays 9 (readTagged 86 (readPointed 4095) (take 6 (S1 d))) ≡ got (d .view .given .0 .0)
+view-found d = gave 9 (d .before .before .read-view .ensures) (d .view .given .1)
 
-pupil-found : (d : tie.After-pupil) → pupilText .parse (take 5 (drop 6 (S2 d))) ≡ got (d .pupil .given .0 .0)
+pupil-found : (d : tie.After-pupil) → pupilSays (readPupilText (take 5 (drop 6 (S2 d)))) ≡ got (d .pupil .given .0 .0)
 unfolding pupilSays
-pupil-found d = answered pupilSays (pupil-says _ (search needs) (d .before .before .read-pupil-text .ensures)) (d .pupil .given .1)
+pupil-found d = ap pupilSays (sym (d .before .before .read-pupil-text .ensures) ∙ d .pupil .given .1)
 
 sub-read-view : tie.Need-sub-read-view
 sub-read-view c = search needs
@@ -51,13 +49,13 @@ enum-told : tie.Need-enum-told
 enum-told c = search needs
 
 returns : tie.Need-returns
-unfolding threeSays fieldSays pupilSays
+unfolding threeSays pupilSays
 returns c =
     let r = c .before .before in
     let b = r .before .before .before in
     sym
     (back-parts (b .args .s .now) (b .pre)
-    ∙ wrong-first _ (answered (fieldSays 9) (r .read-view .ensures) (c .enum-told .given .1)))
+    ∙ wrong-first _ (refused 9 (r .read-view .ensures) (c .enum-told .given .1)))
 
 sub-read-pupil-text : tie.Need-sub-read-pupil-text
 sub-read-pupil-text c = search needs
@@ -78,14 +76,14 @@ enum-told-2 : tie.Need-enum-told-2
 enum-told-2 c = search needs
 
 returns-2 : tie.Need-returns-2
-unfolding threeSays fieldSays pupilSays
+unfolding threeSays pupilSays
 returns-2 c =
     let r = c .before .before in
     let d1 = r .before .before .before in
     let b = d1 .before .before .before .before .before in
     sym
     (back-parts (b .args .s .now) (b .pre)
-    ∙ wrong-later (view-found d1) (wrong-first _ (answered pupilSays (pupil-says _ (search needs) (r .read-pupil-text .ensures)) (c .enum-told2 .given .1))))
+    ∙ wrong-later (view-found d1) (wrong-first _ (ap pupilSays (sym (r .read-pupil-text .ensures) ∙ c .enum-told2 .given .1))))
 
 sub-read-tagged : tie.Need-sub-read-tagged
 sub-read-tagged c = search needs
@@ -106,7 +104,7 @@ enum-told-3 : tie.Need-enum-told-3
 enum-told-3 c = search needs
 
 returns-3 : tie.Need-returns-3
-unfolding threeSays fieldSays pupilSays
+unfolding threeSays pupilSays
 returns-3 c =
     let r = c .before .before in
     let d2 = r .before .before .before in
@@ -114,10 +112,10 @@ returns-3 c =
     let b = d1 .before .before .before .before .before in
     sym
     (back-parts (b .args .s .now) (b .pre)
-    ∙ wrong-later (view-found d1) (wrong-later (pupil-found d2) (answered (fieldSays 11) (number-says 122 11 4 1000 _ (r .read-tagged .ensures)) (c .enum-told3 .given .1))))
+    ∙ wrong-later (view-found d1) (wrong-later (pupil-found d2) (refused 11 (r .read-tagged .ensures) (c .enum-told3 .given .1))))
 
 returns-4 : tie.Need-returns-4
-unfolding threeSays fieldSays pupilSays
+unfolding threeSays pupilSays
 returns-4 c =
     let d3 = c .before in
     let d2 = d3 .before .before .before .before .before in
@@ -126,7 +124,7 @@ returns-4 c =
     let same : toZ w32 (ofZ w32 (d2 .pupil .given .0 .0)) ≡ d2 .pupil .given .0 .0 = toZ-ofZ (search needs) in
     sym
     (back-parts (b .args .s .now) (b .pre)
-    ∙ right-both (view-found d1) (right-both (pupil-found d2 ∙ ap got (sym same)) (answered (fieldSays 11) (number-says 122 11 4 1000 _ (d3 .before .before .read-tagged .ensures)) (d3 .zoom .given .1))))
+    ∙ right-both (view-found d1) (right-both (pupil-found d2 ∙ ap got (sym same)) (gave 11 (d3 .before .before .read-tagged .ensures) (d3 .zoom .given .1))))
 
 pub read-back-spec : {M : Type 1} → statement M
 read-back-spec =

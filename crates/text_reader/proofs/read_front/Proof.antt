@@ -3,12 +3,12 @@ use Prim.Native.Nat.{ℕ}
 use mathlib.Core.List.{List}
 use mathlib.Core.Path.{_≡_, sym, _∙_}
 use lib.ListN.{take, drop}
-use Rattle.codec.specs.Codec.{got, fieldSays}
+use Rattle.digits.specs.Digits.{readDecimal}
+use Rattle.codec.specs.Codec.{got, fieldSays, readTagged}
+use Rattle.codec.proofs.Fields.{gave, refused, wrong-first, wrong-later, right-both}
+use Rattle.stop.specs.Stop.{readStopText}
 use Rattle.record.specs.Record.{topDistance}
 use Rattle.gather.specs.Gather.{fourSays}
-use Rattle.gather.proofs.Laws.{answered, wrong-first, wrong-later, right-both}
-use Rattle.text_reader.specs.Text.{stopTagged}
-use Rattle.text_reader.proofs.Chains.{numbered, number-says}
 use Rattle.text_reader.proofs.Parts.{front-parts}
 use borrow.Author.Needs.{needs}
 use Rattle.text_reader.proofs.read_front.Statement.{statement}
@@ -24,17 +24,14 @@ S2 d = S1 (d .before .before .before .before .before)
 abbrev S3 : tie.After-stop → List ℕ
 S3 d = S2 (d .before .before .before .before .before)
 
-focus-found : (d : tie.After-focus) → numbered 68 1 7 topDistance .parse (take 8 (S1 d)) ≡ got (d .focus .given .0 .0)
-unfolding fieldSays
-focus-found d = answered (fieldSays 1) (number-says 68 1 7 topDistance _ (d .before .before .read-tagged .ensures)) (d .focus .given .1)
+focus-found : (d : tie.After-focus) → fieldSays 1 (readTagged 68 (readDecimal topDistance) (take 8 (S1 d))) ≡ got (d .focus .given .0 .0)
+focus-found d = gave 1 (d .before .before .read-tagged .ensures) (d .focus .given .1)
 
-aperture-found : (d : tie.After-aperture) → numbered 84 2 4 4095 .parse (take 5 (drop 8 (S2 d))) ≡ got (d .aperture .given .0 .0)
-unfolding fieldSays
-aperture-found d = answered (fieldSays 2) (number-says 84 2 4 4095 _ (d .before .before .read-tagged2 .ensures)) (d .aperture .given .1)
+aperture-found : (d : tie.After-aperture) → fieldSays 2 (readTagged 84 (readDecimal 4095) (take 5 (drop 8 (S2 d)))) ≡ got (d .aperture .given .0 .0)
+aperture-found d = gave 2 (d .before .before .read-tagged2 .ensures) (d .aperture .given .1)
 
-stop-found : (d : tie.After-stop) → stopTagged .parse (take 4 (drop 13 (S3 d))) ≡ got (d .stop .given .0 .0)
-unfolding fieldSays
-stop-found d = answered (fieldSays 3) (d .before .before .read-stop .ensures) (d .stop .given .1)
+stop-found : (d : tie.After-stop) → fieldSays 3 (readTagged 116 readStopText (take 4 (drop 13 (S3 d)))) ≡ got (d .stop .given .0 .0)
+stop-found d = gave 3 (d .before .before .read-stop .ensures) (d .stop .given .1)
 
 sub-read-tagged : tie.Need-sub-read-tagged
 sub-read-tagged c = search needs
@@ -55,13 +52,13 @@ enum-told : tie.Need-enum-told
 enum-told c = search needs
 
 returns : tie.Need-returns
-unfolding fourSays fieldSays
+unfolding fourSays
 returns c =
     let r = c .before .before in
     let b = r .before .before .before in
     sym
     (front-parts (b .args .s .now) (b .pre)
-    ∙ wrong-first _ (answered (fieldSays 1) (number-says 68 1 7 topDistance _ (r .read-tagged .ensures)) (c .enum-told .given .1)))
+    ∙ wrong-first _ (refused 1 (r .read-tagged .ensures) (c .enum-told .given .1)))
 
 sub-read-tagged-2 : tie.Need-sub-read-tagged-2
 sub-read-tagged-2 c = search needs
@@ -82,14 +79,14 @@ enum-told-2 : tie.Need-enum-told-2
 enum-told-2 c = search needs
 
 returns-2 : tie.Need-returns-2
-unfolding fourSays fieldSays
+unfolding fourSays
 returns-2 c =
     let r = c .before .before in
     let d1 = r .before .before .before in
     let b = d1 .before .before .before .before .before in
     sym
     (front-parts (b .args .s .now) (b .pre)
-    ∙ wrong-later (focus-found d1) (wrong-first _ (answered (fieldSays 2) (number-says 84 2 4 4095 _ (r .read-tagged2 .ensures)) (c .enum-told2 .given .1))))
+    ∙ wrong-later (focus-found d1) (wrong-first _ (refused 2 (r .read-tagged2 .ensures) (c .enum-told2 .given .1))))
 
 sub-read-stop : tie.Need-sub-read-stop
 sub-read-stop c = search needs
@@ -110,7 +107,7 @@ enum-told-3 : tie.Need-enum-told-3
 enum-told-3 c = search needs
 
 returns-3 : tie.Need-returns-3
-unfolding fourSays fieldSays
+unfolding fourSays
 returns-3 c =
     let r = c .before .before in
     let d2 = r .before .before .before in
@@ -118,7 +115,7 @@ returns-3 c =
     let b = d1 .before .before .before .before .before in
     sym
     (front-parts (b .args .s .now) (b .pre)
-    ∙ wrong-later (focus-found d1) (wrong-later (aperture-found d2) (wrong-first _ (answered (fieldSays 3) (r .read-stop .ensures) (c .enum-told3 .given .1)))))
+    ∙ wrong-later (focus-found d1) (wrong-later (aperture-found d2) (wrong-first _ (refused 3 (r .read-stop .ensures) (c .enum-told3 .given .1)))))
 
 sub-read-tagged-3 : tie.Need-sub-read-tagged-3
 sub-read-tagged-3 c = search needs
@@ -139,7 +136,7 @@ enum-told-4 : tie.Need-enum-told-4
 enum-told-4 c = search needs
 
 returns-4 : tie.Need-returns-4
-unfolding fourSays fieldSays
+unfolding fourSays
 returns-4 c =
     let r = c .before .before in
     let d3 = r .before .before .before in
@@ -148,10 +145,10 @@ returns-4 c =
     let b = d1 .before .before .before .before .before in
     sym
     (front-parts (b .args .s .now) (b .pre)
-    ∙ wrong-later (focus-found d1) (wrong-later (aperture-found d2) (wrong-later (stop-found d3) (answered (fieldSays 4) (number-says 43 4 1 9 _ (r .read-tagged3 .ensures)) (c .enum-told4 .given .1)))))
+    ∙ wrong-later (focus-found d1) (wrong-later (aperture-found d2) (wrong-later (stop-found d3) (refused 4 (r .read-tagged3 .ensures) (c .enum-told4 .given .1)))))
 
 returns-5 : tie.Need-returns-5
-unfolding fourSays fieldSays
+unfolding fourSays
 returns-5 c =
     let d4 = c .before in
     let d3 = d4 .before .before .before .before .before in
@@ -160,7 +157,7 @@ returns-5 c =
     let b = d1 .before .before .before .before .before in
     sym
     (front-parts (b .args .s .now) (b .pre)
-    ∙ right-both (focus-found d1) (right-both (aperture-found d2) (right-both (stop-found d3) (answered (fieldSays 4) (number-says 43 4 1 9 _ (d4 .before .before .read-tagged3 .ensures)) (d4 .tenth .given .1)))))
+    ∙ right-both (focus-found d1) (right-both (aperture-found d2) (right-both (stop-found d3) (gave 4 (d4 .before .before .read-tagged3 .ensures) (d4 .tenth .given .1)))))
 
 pub read-front-spec : {M : Type 1} → statement M
 read-front-spec =

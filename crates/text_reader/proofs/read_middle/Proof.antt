@@ -3,11 +3,11 @@ use Prim.Native.Nat.{ℕ}
 use mathlib.Core.List.{List}
 use mathlib.Core.Path.{_≡_, sym, _∙_}
 use lib.ListN.{take, drop}
-use Rattle.codec.specs.Codec.{got, fieldSays}
+use Rattle.digits.specs.Digits.{readDecimal}
+use Rattle.codec.specs.Codec.{got, fieldSays, readTagged}
+use Rattle.codec.proofs.Fields.{gave, refused, wrong-first, wrong-later, right-both}
 use Rattle.record.specs.Record.{topDistance}
 use Rattle.gather.specs.Gather.{fourSays}
-use Rattle.gather.proofs.Laws.{answered, wrong-first, wrong-later, right-both}
-use Rattle.text_reader.proofs.Chains.{numbered, number-says}
 use Rattle.text_reader.proofs.Parts.{middle-parts}
 use borrow.Author.Needs.{needs}
 use Rattle.text_reader.proofs.read_middle.Statement.{statement}
@@ -23,17 +23,14 @@ S2 d = S1 (d .before .before .before .before .before)
 abbrev S3 : tie.After-near → List ℕ
 S3 d = S2 (d .before .before .before .before .before)
 
-focal-found : (d : tie.After-focal) → numbered 90 5 4 1023 .parse (take 5 (S1 d)) ≡ got (d .focal .given .0 .0)
-unfolding fieldSays
-focal-found d = answered (fieldSays 5) (number-says 90 5 4 1023 _ (d .before .before .read-tagged .ensures)) (d .focal .given .1)
+focal-found : (d : tie.After-focal) → fieldSays 5 (readTagged 90 (readDecimal 1023) (take 5 (S1 d))) ≡ got (d .focal .given .0 .0)
+focal-found d = gave 5 (d .before .before .read-tagged .ensures) (d .focal .given .1)
 
-hyperfocal-found : (d : tie.After-hyperfocal) → numbered 72 6 7 topDistance .parse (take 8 (drop 5 (S2 d))) ≡ got (d .hyperfocal .given .0 .0)
-unfolding fieldSays
-hyperfocal-found d = answered (fieldSays 6) (number-says 72 6 7 topDistance _ (d .before .before .read-tagged2 .ensures)) (d .hyperfocal .given .1)
+hyperfocal-found : (d : tie.After-hyperfocal) → fieldSays 6 (readTagged 72 (readDecimal topDistance) (take 8 (drop 5 (S2 d)))) ≡ got (d .hyperfocal .given .0 .0)
+hyperfocal-found d = gave 6 (d .before .before .read-tagged2 .ensures) (d .hyperfocal .given .1)
 
-near-found : (d : tie.After-near) → numbered 78 7 7 topDistance .parse (take 8 (drop 13 (S3 d))) ≡ got (d .near .given .0 .0)
-unfolding fieldSays
-near-found d = answered (fieldSays 7) (number-says 78 7 7 topDistance _ (d .before .before .read-tagged3 .ensures)) (d .near .given .1)
+near-found : (d : tie.After-near) → fieldSays 7 (readTagged 78 (readDecimal topDistance) (take 8 (drop 13 (S3 d)))) ≡ got (d .near .given .0 .0)
+near-found d = gave 7 (d .before .before .read-tagged3 .ensures) (d .near .given .1)
 
 sub-read-tagged : tie.Need-sub-read-tagged
 sub-read-tagged c = search needs
@@ -54,13 +51,13 @@ enum-told : tie.Need-enum-told
 enum-told c = search needs
 
 returns : tie.Need-returns
-unfolding fourSays fieldSays
+unfolding fourSays
 returns c =
     let r = c .before .before in
     let b = r .before .before .before in
     sym
     (middle-parts (b .args .s .now) (b .pre)
-    ∙ wrong-first _ (answered (fieldSays 5) (number-says 90 5 4 1023 _ (r .read-tagged .ensures)) (c .enum-told .given .1)))
+    ∙ wrong-first _ (refused 5 (r .read-tagged .ensures) (c .enum-told .given .1)))
 
 sub-read-tagged-2 : tie.Need-sub-read-tagged-2
 sub-read-tagged-2 c = search needs
@@ -81,14 +78,14 @@ enum-told-2 : tie.Need-enum-told-2
 enum-told-2 c = search needs
 
 returns-2 : tie.Need-returns-2
-unfolding fourSays fieldSays
+unfolding fourSays
 returns-2 c =
     let r = c .before .before in
     let d1 = r .before .before .before in
     let b = d1 .before .before .before .before .before in
     sym
     (middle-parts (b .args .s .now) (b .pre)
-    ∙ wrong-later (focal-found d1) (wrong-first _ (answered (fieldSays 6) (number-says 72 6 7 topDistance _ (r .read-tagged2 .ensures)) (c .enum-told2 .given .1))))
+    ∙ wrong-later (focal-found d1) (wrong-first _ (refused 6 (r .read-tagged2 .ensures) (c .enum-told2 .given .1))))
 
 sub-read-tagged-3 : tie.Need-sub-read-tagged-3
 sub-read-tagged-3 c = search needs
@@ -109,7 +106,7 @@ enum-told-3 : tie.Need-enum-told-3
 enum-told-3 c = search needs
 
 returns-3 : tie.Need-returns-3
-unfolding fourSays fieldSays
+unfolding fourSays
 returns-3 c =
     let r = c .before .before in
     let d2 = r .before .before .before in
@@ -117,7 +114,7 @@ returns-3 c =
     let b = d1 .before .before .before .before .before in
     sym
     (middle-parts (b .args .s .now) (b .pre)
-    ∙ wrong-later (focal-found d1) (wrong-later (hyperfocal-found d2) (wrong-first _ (answered (fieldSays 7) (number-says 78 7 7 topDistance _ (r .read-tagged3 .ensures)) (c .enum-told3 .given .1)))))
+    ∙ wrong-later (focal-found d1) (wrong-later (hyperfocal-found d2) (wrong-first _ (refused 7 (r .read-tagged3 .ensures) (c .enum-told3 .given .1)))))
 
 sub-read-tagged-4 : tie.Need-sub-read-tagged-4
 sub-read-tagged-4 c = search needs
@@ -138,7 +135,7 @@ enum-told-4 : tie.Need-enum-told-4
 enum-told-4 c = search needs
 
 returns-4 : tie.Need-returns-4
-unfolding fourSays fieldSays
+unfolding fourSays
 returns-4 c =
     let r = c .before .before in
     let d3 = r .before .before .before in
@@ -147,10 +144,10 @@ returns-4 c =
     let b = d1 .before .before .before .before .before in
     sym
     (middle-parts (b .args .s .now) (b .pre)
-    ∙ wrong-later (focal-found d1) (wrong-later (hyperfocal-found d2) (wrong-later (near-found d3) (answered (fieldSays 8) (number-says 70 8 7 topDistance _ (r .read-tagged4 .ensures)) (c .enum-told4 .given .1)))))
+    ∙ wrong-later (focal-found d1) (wrong-later (hyperfocal-found d2) (wrong-later (near-found d3) (refused 8 (r .read-tagged4 .ensures) (c .enum-told4 .given .1)))))
 
 returns-5 : tie.Need-returns-5
-unfolding fourSays fieldSays
+unfolding fourSays
 returns-5 c =
     let d4 = c .before in
     let d3 = d4 .before .before .before .before .before in
@@ -159,7 +156,7 @@ returns-5 c =
     let b = d1 .before .before .before .before .before in
     sym
     (middle-parts (b .args .s .now) (b .pre)
-    ∙ right-both (focal-found d1) (right-both (hyperfocal-found d2) (right-both (near-found d3) (answered (fieldSays 8) (number-says 70 8 7 topDistance _ (d4 .before .before .read-tagged4 .ensures)) (d4 .far .given .1)))))
+    ∙ right-both (focal-found d1) (right-both (hyperfocal-found d2) (right-both (near-found d3) (gave 8 (d4 .before .before .read-tagged4 .ensures) (d4 .far .given .1)))))
 
 pub read-middle-spec : {M : Type 1} → statement M
 read-middle-spec =

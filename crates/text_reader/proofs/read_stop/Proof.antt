@@ -1,10 +1,7 @@
 -- `text_reader::read_stop` meets its contract: the tag, then the stop behind it. Assumes nothing.
-use mathlib.Core.Path.{ap, _∙_}
 use native.Mathlib.Omega.{arith}
-use Rattle.codec.specs.Codec.{fieldSays}
-use Rattle.stop.specs.Stop.{stop}
-use Rattle.stop.proofs.Exact.{stop-read}
-use Rattle.text_reader.proofs.Chains.{untagged, behind-tag}
+use Rattle.codec.proofs.Fields.{untagged, behind-tag}
+use Rattle.stop.specs.Stop.{readStopText}
 use borrow.Author.Needs.{needs}
 use Rattle.text_reader.proofs.read_stop.Statement.{statement}
 use Rattle.text_reader.proofs.read_stop.Tie as tie
@@ -13,7 +10,7 @@ shared-slice-read-if1 : tie.Need-shared-slice-read-if1
 shared-slice-read-if1 c = search needs
 
 returns : tie.Need-returns
-returns c = untagged 116 3 stop (c .before .before .before .args .s .now) (c .if1 .taken)
+returns c = untagged 116 readStopText _ (c .if1 .taken)
 
 sub-read-stop-text : tie.Need-sub-read-stop-text
 sub-read-stop-text c = search needs
@@ -31,7 +28,7 @@ returns-2 : tie.Need-returns-2
 returns-2 c =
     let e = c .before .before in
     let b = e .before .before .before in
-    behind-tag 116 3 stop (b .args .s .now) _ (omega (arith, b .pre)) (e .if1 .left) (ap (fieldSays 3) (c .read-stop-text .ensures) ∙ stop-read _)
+    behind-tag 116 readStopText _ (omega (arith, b .pre)) (e .if1 .left) (c .read-stop-text .ensures)
 
 pub read-stop-spec : {M : Type 1} → statement M
 read-stop-spec =

@@ -1,11 +1,7 @@
 -- `text_reader::read_view` meets its contract: the tag, then the number behind it. Assumes nothing.
-use mathlib.Core.Path.{ap, _∙_}
 use native.Mathlib.Omega.{arith}
-use lib.ListN.{length-take, length-drop}
-use Rattle.codec.specs.Codec.{fieldSays}
-use Rattle.pointed.specs.Pointed.{pointed}
-use Rattle.pointed.proofs.Exact.{pointed-read}
-use Rattle.text_reader.proofs.Chains.{untagged, behind-tag}
+use Rattle.codec.proofs.Fields.{untagged, behind-tag}
+use Rattle.pointed.specs.Pointed.{readPointed}
 use borrow.Author.Needs.{needs}
 use Rattle.text_reader.proofs.read_view.Statement.{statement}
 use Rattle.text_reader.proofs.read_view.Tie as tie
@@ -14,7 +10,7 @@ shared-slice-read-if1 : tie.Need-shared-slice-read-if1
 shared-slice-read-if1 c = search needs
 
 returns : tie.Need-returns
-returns c = untagged 86 9 (pointed 9 3 4095) (c .before .before .before .args .s .now) (c .if1 .taken)
+returns c = untagged 86 (readPointed 4095) _ (c .if1 .taken)
 
 sub-read-pointed : tie.Need-sub-read-pointed
 sub-read-pointed c = search needs
@@ -32,8 +28,7 @@ returns-2 : tie.Need-returns-2
 returns-2 c =
     let e = c .before .before in
     let b = e .before .before .before in
-    behind-tag 86 9 (pointed 9 3 4095) (b .args .s .now) _ (omega (arith, b .pre)) (e .if1 .left)
-    (ap (fieldSays 9) (c .read-pointed .ensures) ∙ pointed-read 9 3 4095 _ (simp (length-take, length-drop) (omega (arith, b .pre))))
+    behind-tag 86 (readPointed 4095) _ (omega (arith, b .pre)) (e .if1 .left) (c .read-pointed .ensures)
 
 pub read-view-spec : {M : Type 1} → statement M
 read-view-spec =

@@ -1,9 +1,15 @@
 -- `text_writer::put_back` meets its contract: four writes, one behind the other. Assumes nothing.
-use mathlib.Core.Path.{_≡_}
+use mathlib.Core.Path.{_≡_, refl, ap, _∙_}
+use native.Mathlib.Omega.{arith}
 use mir.Syntax.{w32}
 use mir.Val.{toZ, ofZ}
 use mir.Facts.{toZ-ofZ}
-use Rattle.text_writer.proofs.Written.{back-written}
+use Rattle.laws.specs.Over.{over}
+use Rattle.laws.proofs.OverLaws.{last, next, run}
+use Rattle.digits.specs.Digits.{digits}
+use Rattle.pointed.specs.Pointed.{pointed}
+use Rattle.pupil.specs.Pupil.{pupilText}
+use Rattle.record.specs.Forms.{backText}
 use borrow.Author.Needs.{needs}
 use Rattle.text_writer.proofs.put_back.Statement.{statement}
 use Rattle.text_writer.proofs.put_back.Tie as tie
@@ -30,14 +36,18 @@ same-length : tie.Need-same-length
 same-length c = search needs
 
 returns : tie.Need-returns
+unfolding backText pointed pupilText digits
 returns c =
     let w4 = c .before .before in
     let w3 = w4 .before .before .before .before in
     let w2 = w3 .before .before .before .before .before in
     let w1 = w2 .before .before .before .before in
-    let b = w1 .before .before .before in
-    back-written _ _ _ (same (w3 .before)) (b .pre)
-    (w1 .put-byte .ensures) (w2 .put-pointed .ensures) (w3 .put-pupil-text .ensures) (w4 .put-tagged .ensures)
+    run
+    (next _ (w1 .put-byte .ensures) refl
+    (next _ (w2 .put-pointed .ensures) refl
+    (next _ (w3 .put-pupil-text .ensures ∙ ap (over _ 54) (ap (pupilText .print) (same (w3 .before)))) refl
+    (last _ (w4 .put-tagged .ensures) refl))))
+    (omega (arith, w1 .before .before .before .pre))
 
 pub put-back-spec : {M : Type 1} → statement M
 put-back-spec =

@@ -1,5 +1,11 @@
 -- `text_writer::put_front` meets its contract: five writes, one behind the other. Assumes nothing.
-use Rattle.text_writer.proofs.Written.{front-written}
+use mathlib.Core.Path.{refl}
+use native.Mathlib.Omega.{arith}
+use Rattle.laws.proofs.OverLaws.{last, next, run}
+use Rattle.digits.specs.Digits.{digits}
+use Rattle.stop.specs.Stop.{stop}
+use Rattle.stop.proofs.Exact.{stop-long}
+use Rattle.record.specs.Forms.{frontText}
 use borrow.Author.Needs.{needs}
 use Rattle.text_writer.proofs.put_front.Statement.{statement}
 use Rattle.text_writer.proofs.put_front.Tie as tie
@@ -23,14 +29,20 @@ same-length : tie.Need-same-length
 same-length c = search needs
 
 returns : tie.Need-returns
+unfolding frontText stop digits
 returns c =
     let w5 = c .before .before in
     let w4 = w5 .before .before .before .before in
     let w3 = w4 .before .before .before .before in
     let w2 = w3 .before .before .before .before in
     let w1 = w2 .before .before .before .before in
-    front-written _ _ _ _ _ (w1 .before .before .before .pre)
-    (w1 .put-tagged .ensures) (w2 .put-tagged2 .ensures) (w3 .put-byte .ensures) (w4 .put-stop-text .ensures) (w5 .put-tagged3 .ensures)
+    run
+    (next _ (w1 .put-tagged .ensures) refl
+    (next _ (w2 .put-tagged2 .ensures) refl
+    (next _ (w3 .put-byte .ensures) refl
+    (next _ (w4 .put-stop-text .ensures) (stop-long _)
+    (last _ (w5 .put-tagged3 .ensures) refl)))))
+    (omega (arith, w1 .before .before .before .pre))
 
 pub put-front-spec : {M : Type 1} → statement M
 put-front-spec =

@@ -1,9 +1,11 @@
 -- `text_writer::put_text_record` meets its contract: the groups, one behind the other. Assumes nothing.
-use mathlib.Core.Path.{_≡_, sym}
+use mathlib.Core.Path.{_≡_, sym, ap, _∙_}
 use native.Mathlib.Omega.{arith}
 use lib.ListN.{length}
-use Rattle.laws.proofs.OverLaws.{over-short}
-use Rattle.text_writer.proofs.Written.{record-long, record-written}
+use Rattle.laws.specs.Over.{over}
+use Rattle.laws.proofs.OverLaws.{over-short, last, next, run}
+use Rattle.serial.proofs.Field.{serial-long}
+use Rattle.text_writer.proofs.Written.{front-long, middle-long, back-long, groups-of, record-long}
 use borrow.Author.Needs.{needs}
 use Rattle.text_writer.proofs.put_text_record.Statement.{statement}
 use Rattle.text_writer.proofs.put_text_record.Tie as tie
@@ -40,8 +42,13 @@ returns-2 c =
     let w1 = w2 .before .before .before .before in
     let e = w1 .before .before .before .before in
     let b = e .before .before in
-    record-written (b .args .r) (nine b) _ (e .if1 .left)
-    (w1 .put-front .ensures) (w2 .put-middle .ensures) (w3 .put-back .ensures) (w4 .put-serial .ensures)
+    run
+    (next _ (w1 .put-front .ensures) (front-long _)
+    (next _ (w2 .put-middle .ensures) (middle-long _)
+    (next _ (w3 .put-back .ensures) (back-long _)
+    (last _ (w4 .put-serial .ensures) (serial-long _ (nine b))))))
+    (e .if1 .left)
+    ∙ ap (over _ 0) (groups-of (b .args .r))
 
 pub put-text-record-spec : {M : Type 1} → statement M
 put-text-record-spec =

@@ -1,87 +1,58 @@
--- `units::convert` meets its contract: the letters, then the field and its range, then the number. Assumes nothing.
-use mathlib.Core.Bool.{Bool, _&&_}
+-- `units::convert` meets its contract: the letters, each tested once. Assumes nothing.
+use Prim.Native.Nat.{ℕ}
+use mathlib.Core.Bool.{true, false, _&&_, _||_}
 use mathlib.Core.Path.{_≡_, refl, sym, ap, _∙_}
 use lib.IntN.{ℤ}
-use mir.Syntax.{w32}
-use mir.Val.{toZ, ofZ}
 use mir.Facts.{toZ-ofZ}
 use borrow.Author.Needs.{needs}
-use borrow.Author.Tests.{not-true, not-false}
-use Rattle.laws.proofs.Tests.{yes, no}
+use borrow.Author.Tests.{ne-eqb, not-true, not-false}
+use Rattle.laws.proofs.Tests.{no, and-fails, and-fails-by}
 use Rattle.refusal.specs.Answer.{accepted, unless}
+use Rattle.refusal.specs.declared.Refusal.the-variants.{Field}
 use Rattle.units.specs.Units.{isUnit, numberIn, inRange, conversion, convertedOf}
-use Rattle.units.specs.declared.Converted.the-variants.{Value}
-use Rattle.units.proofs.Ranges.{pupil-told, distance-told}
+use Rattle.units.specs.declared.Converted.{Converted}
+use Rattle.units.specs.declared.Converted.the-variants.{Refused}
 use Rattle.units.proofs.convert.Statement.{statement}
 use Rattle.units.proofs.convert.Tie as tie
 
--- the number that the calls take is the caller's own
-own : (b : tie.Start) → toZ w32 (ofZ w32 (b .args .number)) ≡ b .args .number
-own b = toZ-ofZ (b .fits .number)
-
--- the tests of the definition, by what the calls answered
-letters : {t : Bool} (c : tie.After-is-unit2) → (c .before .is-unit .result && c .is-unit2 .result) ≡ t →
-    (isUnit (c .before .before .args .unit) && isUnit (c .before .before .args .wanted)) ≡ t
-letters c e = sym (λ i. c .before .is-unit .ensures i && c .is-unit2 .ensures i) ∙ e
-
-range : {t : Bool} (c : tie.After-in-range) → c .in-range .result ≡ t →
-    let b = c .before .before .before .before in
-    inRange (b .args .field) (b .args .number) (b .args .unit) ≡ t
-range c e =
-    let b = c .before .before .before .before in
-    sym (c .in-range .ensures ∙ ap (λ (z : ℤ). inRange (b .args .field) z (b .args .unit)) (own b)) ∙ e
-
--- in range: the answer is the number, by whichever call
-valued : (c : tie.Else2) {r : ℤ} →
-    let b = c .before .before .before .before .before in
-    r ≡ numberIn (b .args .unit) (b .args .wanted) (toZ w32 (ofZ w32 (b .args .number))) →
-    Value r ≡ convertedOf (conversion (b .args .field) (b .args .number) (b .args .unit) (b .args .wanted))
+wrong : (i : ℕ) (z : ℤ) (unit wanted : ℕ) → false ≡ (isUnit unit && isUnit wanted) → Refused (Field 0) ≡ convertedOf (conversion i z unit wanted)
 unfolding conversion unless
-valued c e =
-    let u = c .before .before in
-    let b = u .before .before .before in
-    let k = e ∙ ap (numberIn (b .args .unit) (b .args .wanted)) (own b) in
-    ap convertedOf (yes _ (letters (u .before) (not-false _ (u .if1 .left))) (yes _ (range (c .before) (not-false _ (c .if2 .left))) (ap accepted k)))
+wrong i z unit wanted e = ap convertedOf (no _ (sym e) refl)
+
+-- of the letter u; the number that the call takes is the caller's own
+right : (i : ℕ) {y z : ℤ} (u : ℕ) {unit : ℕ} (wanted : ℕ) {r : Converted} → y ≡ z → isUnit u ≡ true → unit ≡ u → isUnit wanted ≡ true →
+    r ≡ convertedOf (unless (inRange i y u) (Field i) (accepted (numberIn u wanted y))) → r ≡ convertedOf (conversion i z unit wanted)
+unfolding conversion unless
+right i u wanted own p e q h = h ∙ rw (own, e, p, q)
 
 is-unit-requires : tie.Need-is-unit-requires
 is-unit-requires c κs = search needs
 
-is-unit-requires-2 : tie.Need-is-unit-requires-2
-is-unit-requires-2 c κs = search needs
-
 returns : tie.Need-returns
-unfolding conversion unless
-returns c = ap convertedOf (no _ (letters (c .before) (not-true _ (c .if1 .taken))) refl)
+returns c = wrong _ _ _ _ (and-fails-by (isUnit (c .before .before .args .unit)) (sym (c .before .is-unit .ensures) ∙ not-true _ (c .if1 .taken)))
 
-in-range-requires : tie.Need-in-range-requires
-in-range-requires c κs = search needs
+convert-from-requires : tie.Need-convert-from-requires
+convert-from-requires c κs = search needs
+
+convert-from-requires-2 : tie.Need-convert-from-requires-2
+convert-from-requires-2 c κs = search needs
 
 returns-2 : tie.Need-returns-2
-unfolding conversion unless
 returns-2 c =
-    let g = c .before in
-    let u = g .before in
-    ap convertedOf (yes _ (letters (u .before) (not-false _ (u .if1 .left))) (no _ (range g (not-true _ (c .if2 .taken))) refl))
-
-pupil-in-requires : tie.Need-pupil-in-requires
-pupil-in-requires c κs =
-    let g = c .before .before in
-    rw (own (g .before .before .before .before)) (pupil-told _ _ _ (range g (not-false _ (c .before .if2 .left))) (c .if3 .taken))
+    let m = c .before in
+    let g = m .before in
+    right _ 73 _ (toZ-ofZ (g .before .before .fits .number)) refl (m .match .keys1) (sym (g .before .is-unit .ensures) ∙ not-false _ (g .if1 .left)) (c .convert-from .ensures)
 
 returns-3 : tie.Need-returns-3
 returns-3 c =
-    let z : toZ w32 (ofZ w32 (c .pupil-in .result)) ≡ c .pupil-in .result = toZ-ofZ (search needs) in
-    valued (c .before .before) (z ∙ c .pupil-in .ensures)
-
-distance-in-requires : tie.Need-distance-in-requires
-distance-in-requires c κs =
-    let g = c .before .before in
-    rw (own (g .before .before .before .before)) (distance-told _ _ _ (range g (not-false _ (c .before .if2 .left))) (c .if3 .left))
+    let m = c .before in
+    let g = m .before in
+    right _ 77 _ (toZ-ofZ (g .before .before .fits .number)) refl (m .match .keys2) (sym (g .before .is-unit .ensures) ∙ not-false _ (g .if1 .left)) (c .convert-from2 .ensures)
 
 returns-4 : tie.Need-returns-4
 returns-4 c =
-    let z : toZ w32 (ofZ w32 (c .distance-in .result)) ≡ c .distance-in .result = toZ-ofZ (search needs) in
-    valued (c .before .before) (z ∙ c .distance-in .ensures)
+    let r = c .match .rest in
+    wrong _ _ _ _ (and-fails _ (λ i. ne-eqb _ _ (r .0 .1) i || ne-eqb _ _ (r .1) i))
 
 pub convert-spec : {M : Type 1} → statement M
-convert-spec = tie.close (tie.spec is-unit-requires is-unit-requires-2 returns in-range-requires returns-2 pupil-in-requires returns-3 distance-in-requires returns-4)
+convert-spec = tie.close (tie.spec is-unit-requires returns convert-from-requires convert-from-requires-2 returns-2 returns-3 returns-4)

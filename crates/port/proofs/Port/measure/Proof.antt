@@ -1,5 +1,5 @@
 -- `Port::measure` meets its contract: 16, then what the verdict on the measurement hands back. Assumes nothing.
-use mathlib.Core.Path.{_≡_, refl, sym, ap, _∙_}
+use mathlib.Core.Path.{refl, sym, ap, _∙_}
 use borrow.Author.Tests.{not-true, not-false}
 use Rattle.laws.proofs.Tests.{yes, no}
 use Rattle.refusal.specs.declared.Verdict.{Verdict}

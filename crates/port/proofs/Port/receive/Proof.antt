@@ -1,12 +1,11 @@
 -- `Port::receive` meets its contract: 16 for the port or the line, then the carriage return, else the byte joins. Assumes nothing.
-use mathlib.Core.Bool.{Bool, true, false, _&&_}
+use mathlib.Core.Bool.{_&&_}
 use mathlib.Core.Path.{_≡_, refl, sym, ap, ap₂, _∙_}
-use borrow.Author.Tests.{eq-eqb, ne-eqb, not-true, not-false}
+use borrow.Author.Tests.{not-true, not-false}
 use Rattle.laws.proofs.Tests.{yes, no}
 use Rattle.refusal.specs.declared.Verdict.the-variants.{Done}
 use Rattle.line.specs.declared.Line.{Line}
 use Rattle.line.specs.Line.{validLine}
-use Rattle.port.specs.declared.Received.{Received}
 use Rattle.port.specs.Port.{validPort, receiveOf}
 use borrow.Author.Needs.{needs}
 use Rattle.port.proofs.Port.receive.Statement.{statement}
@@ -28,14 +27,18 @@ returns : tie.Need-returns
 unfolding receiveOf
 returns c = no _ (sym (tested (c .before)) ∙ not-true _ (c .if1 .taken)) refl
 
+ends-requires : tie.Need-ends-requires
+ends-requires c κs = search needs
+
 taken-requires : tie.Need-taken-requires
 taken-requires c κs = search needs
 
 returns-2 : tie.Need-returns-2
 unfolding receiveOf
 returns-2 c =
-    let e = c .before .before in
-    yes _ (sym (tested (e .before)) ∙ not-false _ (e .if1 .left)) (yes _ (eq-eqb _ _ (c .before .if2 .taken)) (c .taken .ensures))
+    let n = c .before .before in
+    let e = n .before in
+    yes _ (sym (tested (e .before)) ∙ not-false _ (e .if1 .left)) (yes _ (sym (n .ends .ensures) ∙ c .before .if2 .taken) (c .taken .ensures))
 
 joined-requires : tie.Need-joined-requires
 joined-requires c κs = search needs
@@ -43,10 +46,11 @@ joined-requires c κs = search needs
 returns-3 : tie.Need-returns-3
 unfolding receiveOf
 returns-3 c =
-    let e = c .before .before in
+    let n = c .before .before in
+    let e = n .before in
     let p = e .before .before .before .args .self in
     yes _ (sym (tested (e .before)) ∙ not-false _ (e .if1 .left))
-    (no _ (ne-eqb _ _ (c .before .if2 .left)) (ap (λ (l : Line). record { verdict = Done; port = p; line = l }) (c .joined .ensures)))
+    (no _ (sym (n .ends .ensures) ∙ c .before .if2 .left) (ap (λ (l : Line). record { verdict = Done; port = p; line = l }) (c .joined .ensures)))
 
 pub receive-spec : {M : Type 1} → statement M
 receive-spec =
@@ -55,6 +59,7 @@ receive-spec =
     is-valid-requires
     is-valid-requires-2
     returns
+    ends-requires
     taken-requires
     returns-2
     joined-requires

@@ -1,10 +1,12 @@
--- `Port::slot` meets its contract: 16, or a slot of a valid port. Assumes nothing.
+-- `Port::slot` meets its contract: 16, the message under way, or another slot of a valid port. Assumes nothing.
 use mathlib.Core.Bool.{true}
 use mathlib.Core.Path.{_≡_, refl, sym, _∙_}
+use native.Mathlib.Omega.{arith}
 use borrow.Author.Needs.{needs}
-use borrow.Author.Tests.{not-true, not-false}
-use Rattle.laws.proofs.Tests.{no}
-use Rattle.port.specs.Port.{slotOf}
+use borrow.Author.Tests.{not-true, not-false, lt-ltb}
+use Rattle.laws.proofs.Tests.{yes, no}
+use Rattle.port.specs.Port.{validPort, slotOf}
+use Rattle.port.proofs.Valid.{message-valid, message-low}
 use Rattle.port.proofs.Port.slot.Statement.{statement}
 use Rattle.port.proofs.Port.slot.Tie as tie
 
@@ -15,11 +17,25 @@ returns : tie.Need-returns
 unfolding slotOf
 returns c = no _ (sym (c .before .is-valid .ensures) ∙ not-true _ (c .if1 .taken)) refl
 
-advance-requires : tie.Need-advance-requires
-advance-requires c κs = sym (c .before .is-valid .ensures) ∙ not-false _ (c .if1 .left)
+-- past the first test the port is valid
+valid : (c : tie.Else1) → validPort (c .before .before .args .self) ≡ true
+valid c = sym (c .before .is-valid .ensures) ∙ not-false _ (c .if1 .left)
+
+send-from-requires : tie.Need-send-from-requires
+send-from-requires c κs =
+    let e = c .before .before in
+    let p = e .before .before .args .self in
+    omega (arith, message-low (p .message) (message-valid p (valid e)))
 
 returns-2 : tie.Need-returns-2
-returns-2 c = c .advance .ensures
+unfolding slotOf
+returns-2 c = yes _ (valid (c .before .before .before)) (yes _ (lt-ltb _ _ (c .before .if2 .taken)) (c .send-from .ensures))
+
+advance-requires : tie.Need-advance-requires
+advance-requires c κs = valid (c .before .before)
+
+returns-3 : tie.Need-returns-3
+returns-3 c = c .advance .ensures
 
 pub slot-spec : {M : Type 1} → statement M
-slot-spec = tie.close (tie.spec is-valid-requires returns advance-requires returns-2)
+slot-spec = tie.close (tie.spec is-valid-requires returns send-from-requires returns-2 advance-requires returns-3)

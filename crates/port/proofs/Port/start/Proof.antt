@@ -1,6 +1,5 @@
 -- `Port::start` meets its contract: 8, then what the verdict on the measurement hands back. Assumes nothing.
 use Prim.Native.Nat.{ℕ}
-use mathlib.Core.Bool.{true, false}
 use mathlib.Core.Path.{_≡_, sym, ap, _∙_}
 use borrow.Author.Tests.{eq-eqb, ne-eqb}
 use Rattle.laws.proofs.Tests.{yes, no}
@@ -8,7 +7,6 @@ use Rattle.refusal.specs.declared.Refusal.the-variants as refusal
 use Rattle.refusal.specs.declared.Verdict.{Verdict}
 use Rattle.refusal.specs.declared.Verdict.the-variants.{Refused}
 use Rattle.port.specs.declared.Port.{Port}
-use Rattle.port.specs.declared.Handed.{Handed}
 use Rattle.port.specs.Port.{handed, startOf}
 use borrow.Author.Needs.{needs}
 use Rattle.port.proofs.Port.start.Statement.{statement}
