@@ -212,7 +212,9 @@ heron_answer heron_checksum(const uint8_t *bytes, size_t len);
 /* A received byte. A carriage return ends the line: it is handed out, and *line is all zero again. Another byte
  * joins *line; one past HERON_LINE_LEN is not kept and makes it overlong. An ended line is a command only where
  * it is not overlong, and it may be empty. Refused:
- *   16  line->len is past HERON_LINE_LEN: *line stays as it was */
+ *   16  line->len is past HERON_LINE_LEN: *line stays as it was
+ * Your duties, which cannot be checked: line is not null; it points to a whole heron_line, aligned as one, that
+ * may be read and written until the call returns; and line->overlong holds 0 or 1. Its bytes and len may be any. */
 heron_collected heron_collect(heron_line *line, uint8_t byte);
 
 #ifdef __cplusplus

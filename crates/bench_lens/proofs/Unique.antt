@@ -5,13 +5,13 @@ use mathlib.Core.Path.{_≡_}
 use Rattle.laws.proofs.OneAnswer.{one-answer}
 use Rattle.fixed.specs.declared.Settings.{Settings}
 use Rattle.units.specs.declared.Measurement.{Measurement}
-use Rattle.bench_lens.specs.Bench.{letterOf, benchSettings, benchMeasurement}
+use Rattle.bench_lens.specs.Contracts.{LetterOf, BenchSettings, BenchMeasurement}
 
-pub one-letter-of : (word : List ℕ) {r r′ : ℕ} → r ≡ letterOf word → r′ ≡ letterOf word → r ≡ r′
+pub one-letter-of : (word : List ℕ) {r r′ : ℕ} → LetterOf word r → LetterOf word r′ → r ≡ r′
 one-letter-of word = one-answer
 
-pub one-settings : (letter : ℕ) {r r′ : Settings} → r ≡ benchSettings letter → r′ ≡ benchSettings letter → r ≡ r′
-one-settings letter = one-answer
+pub one-bench-settings : (letter : ℕ) {r r′ : Settings} → BenchSettings letter r → BenchSettings letter r′ → r ≡ r′
+one-bench-settings letter = one-answer
 
-pub one-measurement : {r r′ : Measurement} → r ≡ benchMeasurement → r′ ≡ benchMeasurement → r ≡ r′
-one-measurement = one-answer
+pub one-bench-measurement : {r r′ : Measurement} → BenchMeasurement r → BenchMeasurement r′ → r ≡ r′
+one-bench-measurement = one-answer

@@ -4,12 +4,11 @@ use fixed::Fixed;
 use fixed::Settings;
 use record::Figures;
 use units::Measurement;
-ghost use mathlib.Core.Path.{_≡_};
-ghost use Rattle.bench_lens.specs.Bench.{letterOf, benchSettings, benchMeasurement};
+ghost use Rattle.bench_lens.specs.Contracts.{LetterOf, BenchSettings, BenchMeasurement};
 
 // The start-up letter that a word gives a program: its first byte, or I where it is empty.
 pub fn letter_of(word: &[u8]) -> u8
-    ensures { λ r. ⌜ r ≡ letterOf (now (word .entry)) ⌝ }
+    ensures { λ r. ⌜ LetterOf (now (word .entry)) r ⌝ }
 {
     if word.len() == 0 {
         return b'I';
@@ -18,8 +17,8 @@ pub fn letter_of(word: &[u8]) -> u8
 }
 
 // 4050.0093, BENCH, P, 50, 50, the start-up letter, 95, 4.34; names of spaces, blur circles of 250.
-pub fn settings(letter: u8) -> Settings
-    ensures { λ r. ⌜ r ≡ benchSettings letter ⌝ }
+pub fn bench_settings(letter: u8) -> Settings
+    ensures { λ r. ⌜ BenchSettings letter r ⌝ }
 {
     let fixed = Fixed {
         serial: *b"4050.0093",
@@ -40,8 +39,8 @@ pub fn settings(letter: u8) -> Settings
 }
 
 // Record R, unit I, 21 degrees.
-pub fn measurement() -> Measurement
-    ensures { λ r. ⌜ r ≡ benchMeasurement ⌝ }
+pub fn bench_measurement() -> Measurement
+    ensures { λ r. ⌜ BenchMeasurement r ⌝ }
 {
     let figures = Figures {
         focus: 798,

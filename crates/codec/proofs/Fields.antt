@@ -8,11 +8,11 @@ use borrow.Author.Tests.{eq-eqb, ne-eqb}
 use lib.Dec.{eqb}
 use lib.ListN.{length, take, drop, getD}
 use lib.Seq.{take-all}
-use Rattle.laws.proofs.Tests.{told}
+use Rattle.laws.proofs.Tests.{cond-yes, cond-no, told}
 use Rattle.digits.specs.Digits.{readField}
 use Rattle.digits.specs.declared.Field.{Field}
 use Rattle.digits.specs.declared.Field.the-variants.{Value, Wrong}
-use Rattle.codec.specs.Codec.{Codec, Got, got, wrong, passed, both, fieldSays, number, text, begins, tagged, readTagged, textBehind}
+use Rattle.codec.specs.Codec.{Codec, Got, got, wrong, passed, both, fieldSays, number, text, begins, tagged, readTagged, textBehind, readWhole, parsed}
 
 -- ---- a number, by what its reader answered
 
@@ -56,6 +56,21 @@ unfolding textBehind passed
 text-behind [] i w s = refl
 text-behind (t ∷ ts) i w [] = refl
 text-behind (t ∷ ts) i w (x ∷ s) = told (eqb x t) (λ e. rw e (text-behind ts i w s)) (λ e. rw e)
+
+-- ---- bytes of the right number, and of another
+
+pub read-whole : (w : ℕ) (read : List ℕ → Field) (s : List ℕ) → length s ≡ w → readWhole w read s ≡ read s
+unfolding readWhole
+read-whole w read s l = cond-yes _ _ (eq-eqb _ _ l)
+
+module _ {A : Type 0} (c : Codec A) (i : ℕ) {w : ℕ} (e : c .width ≡ w) (s : List ℕ) where
+  pub parsed-whole : length s ≡ w → parsed c i s ≡ c .parse s
+  unfolding parsed
+  parsed-whole l = cond-yes _ _ (eq-eqb _ _ (l ∙ sym e))
+
+  pub parsed-other : (length s ≡ w → ⊥) → parsed c i s ≡ wrong i
+  unfolding parsed
+  parsed-other n = cond-no _ _ (ne-eqb _ _ (λ l. n (l ∙ e)))
 
 -- ---- two in a row
 

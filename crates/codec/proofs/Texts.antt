@@ -1,8 +1,8 @@
 -- A text of a length, and a text as an item of a length: a text of another length leaves zeros, which no text holds. Assumes nothing.
-use Prim.Native.Nat.{ℕ, suc, _+_}
+use Prim.Native.Nat.{ℕ, zero, suc, _+_}
 use mathlib.Core.Bool.{Bool, true, false}
 use mathlib.Core.List.{List, _++_, append-nil}
-use mathlib.Core.Path.{_≡_, sym, ap, _∙_}
+use mathlib.Core.Path.{_≡_, refl, sym, ap, _∙_}
 use native.Mathlib.Omega.{arith}
 use borrow.Author.Tests.{eq-eqb, eqb-true}
 use lib.Dec.{eqb}
@@ -29,6 +29,15 @@ module _ (n : ℕ) (s : List ℕ) where
 
   pub filled-whole : length s ≡ n → filled n s ≡ s
   filled-whole l = cond-yes s (replicate n 0) (eq-eqb (length s) _ (l ∙ sym (length-replicate n 0)))
+
+printable-spaces : (n : ℕ) → printable (replicate n 32) ≡ true
+unfolding every
+printable-spaces zero = refl
+printable-spaces (suc n) = printable-spaces n
+
+-- spaces are a text
+pub spaces-fine : (n : ℕ) → textOk n (replicate n 32) ≡ true
+spaces-fine n = sym (text-fine n (replicate n 32) (length-replicate n 32) (sym (printable-spaces n)))
 
 -- what is written as an item is out of range where the text is
 pub filled-ok : (n : ℕ) (s : List ℕ) → textOk (suc n) (filled (suc n) s) ≡ textOk (suc n) s

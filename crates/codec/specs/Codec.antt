@@ -147,3 +147,11 @@ readTagged t read s = cond (begins t s) (read (drop 1 s)) Wrong
 unfoldable pub textBehind : List ℕ → List ℕ → Bool
 textBehind [] s = printable s
 textBehind (t ∷ ts) s = begins t s && textBehind ts (drop 1 s)
+
+-- bytes of exactly w; of another number they are no value
+unfoldable pub readWhole : ℕ → (List ℕ → Field) → List ℕ → Field
+readWhole w read s = cond (eqb (length s) w) (read s) Wrong
+
+-- the same of a codec: of another number than it takes, field i, its first, is wrong
+unfoldable pub parsed : {A : Type 0} → Codec A → ℕ → List ℕ → Got A
+parsed c i s = cond (eqb (length s) (c .width)) (c .parse s) (wrong i)

@@ -1,1 +1,4 @@
 pub mod Codec
+pub mod Contracts
+pub mod Places
+pub mod Ranges

@@ -1,15 +1,11 @@
 // A field of a message: a printer, a parser and one law between them, and how fields make a message.
 // The code here serves every field that is a text or a number behind its tag.
 use digits::Field;
-ghost use mathlib.Core.Path.{_≡_};
-ghost use mathlib.Core.List.{_∷_};
-ghost use Rattle.laws.specs.Over.{over};
-ghost use Rattle.digits.specs.Digits.{decimal, readDecimal};
-ghost use Rattle.codec.specs.Codec.{printable, overWhole, readTagged, textBehind};
+ghost use Rattle.codec.specs.Contracts.{IsText, IsBehind, PutItem, PutTagged, ReadTagged};
 
 // Whether every byte may stand in a text. To look at each costs less than to stop at the first that may not.
 pub fn is_text(s: &[u8]) -> bool
-    ensures { λ r. ⌜ r ≡ printable (now (s .entry)) ⌝ }
+    ensures { λ r. ⌜ IsText (now (s .entry)) r ⌝ }
 {
     let mut all = true;
     let mut i = 0;
@@ -23,7 +19,7 @@ pub fn is_text(s: &[u8]) -> bool
 
 // Whether s is a text behind its tags.
 pub fn is_behind(s: &[u8], tags: &[u8]) -> bool
-    ensures { λ r. ⌜ r ≡ textBehind (now (tags .entry)) (now (s .entry)) ⌝ }
+    ensures { λ r. ⌜ IsBehind (now (s .entry)) (now (tags .entry)) r ⌝ }
 {
     let mut i = 0;
     while i < tags.len() {
@@ -40,7 +36,7 @@ pub fn is_behind(s: &[u8], tags: &[u8]) -> bool
 
 // Writes a text over the whole of an item; one of another length is not written.
 pub fn put_item(item: &mut [u8], text: &[u8])
-    ensures { λ _. ⌜ now (item .exit) ≡ overWhole (now (item .entry)) (now (text .entry)) ⌝ }
+    ensures { λ _. ⌜ PutItem (now (item .entry)) (now (text .entry)) (now (item .exit)) ⌝ }
 {
     if text.len() != item.len() {
         return;
@@ -50,7 +46,7 @@ pub fn put_item(item: &mut [u8], text: &[u8])
 
 // Writes a tag and the decimal digits behind it.
 pub fn put_tagged(out: &mut [u8], at: usize, tag: u8, width: usize, n: u32)
-    ensures { λ _. ⌜ now (out .exit) ≡ over (now (out .entry)) at (tag ∷ decimal width n) ⌝ }
+    ensures { λ _. ⌜ PutTagged (now (out .entry)) at tag width n (now (out .exit)) ⌝ }
 {
     if out.len() == 0 {
         return;
@@ -64,7 +60,7 @@ pub fn put_tagged(out: &mut [u8], at: usize, tag: u8, width: usize, n: u32)
 
 // Reads a tag and the decimal digits of a number that is at most top.
 pub fn read_tagged(s: &[u8], tag: u8, top: u32) -> Field
-    ensures { λ r. ⌜ r ≡ readTagged tag (readDecimal top) (now (s .entry)) ⌝ }
+    ensures { λ r. ⌜ ReadTagged (now (s .entry)) tag top r ⌝ }
 {
     if s.len() == 0 {
         return Field::Wrong;

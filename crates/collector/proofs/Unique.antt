@@ -1,22 +1,21 @@
 -- One answer for each contract of this crate, and one collector left by the function that updates it in place. Assumes nothing.
 use Prim.Native.Nat.{ℕ}
 use mathlib.Core.Path.{_≡_}
-use Rattle.laws.specs.Gives.{Gives}
 use Rattle.laws.proofs.OneAnswer.{one-answer, one-outcome}
 use Rattle.line.specs.declared.Line.{Line}
+use Rattle.collector.specs.Contracts.{LineAfter, Answered, Collect, Lend}
 use Rattle.collector.specs.declared.Collected.{Collected}
 use Rattle.collector.specs.declared.Updated.{Updated}
-use Rattle.collector.specs.Collect.{lineAfter, collected, updated}
 
-pub one-line-after : (l : Line) (b : ℕ) {r r′ : Line} → r ≡ lineAfter l b → r′ ≡ lineAfter l b → r ≡ r′
-one-line-after l b = one-answer
+pub one-line-after : (line : Line) (byte : ℕ) {r r′ : Line} → LineAfter line byte r → LineAfter line byte r′ → r ≡ r′
+one-line-after line byte = one-answer
 
-pub one-answer-to : (l : Line) (b : ℕ) {r r′ : Collected} → r ≡ collected l b → r′ ≡ collected l b → r ≡ r′
-one-answer-to l b = one-answer
+pub one-answered : (line : Line) (byte : ℕ) {r r′ : Collected} → Answered line byte r → Answered line byte r′ → r ≡ r′
+one-answered line byte = one-answer
 
-pub one-collect : (l : Line) (b : ℕ) {r r′ : Collected} {after after′ : Line} →
-    Gives (collected l b) (lineAfter l b) r after → Gives (collected l b) (lineAfter l b) r′ after′ → (r ≡ r′) × (after ≡ after′)
-one-collect l b = one-outcome
+pub one-collect : (line : Line) (byte : ℕ) {r r′ : Collected} {after after′ : Line} →
+    Collect line byte r after → Collect line byte r′ after′ → (r ≡ r′) × (after ≡ after′)
+one-collect line byte = one-outcome
 
-pub one-lend : (l : Line) (b : ℕ) {r r′ : Updated} → r ≡ updated l b → r′ ≡ updated l b → r ≡ r′
-one-lend l b = one-answer
+pub one-lend : (line : Line) (byte : ℕ) {r r′ : Updated} → Lend line byte r → Lend line byte r′ → r ≡ r′
+one-lend line byte = one-answer

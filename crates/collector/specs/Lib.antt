@@ -1,1 +1,3 @@
 pub mod Collect
+pub mod Contracts
+pub mod Promises

@@ -2,9 +2,7 @@
 // thin function over them that updates it in place.
 use line::Line;
 use refusal::Refusal;
-ghost use mathlib.Core.Path.{_≡_};
-ghost use Rattle.laws.specs.Gives.{Gives};
-ghost use Rattle.collector.specs.Collect.{lineAfter, collected, updated};
+ghost use Rattle.collector.specs.Contracts.{LineAfter, Answered, Collect, Lend};
 
 #[repr(C)]
 pub struct Collected {
@@ -18,7 +16,7 @@ pub struct Collected {
 
 // The collector after a received byte: a carriage return empties it, another byte joins it.
 pub fn line_after(line: Line, byte: u8) -> Line
-    ensures { λ r. ⌜ r ≡ lineAfter line byte ⌝ }
+    ensures { λ r. ⌜ LineAfter line byte r ⌝ }
 {
     if !line.is_valid() {
         return line;
@@ -30,8 +28,8 @@ pub fn line_after(line: Line, byte: u8) -> Line
 }
 
 // What the byte is answered: 16, the line that it ended, or done.
-pub fn answer(line: Line, byte: u8) -> Collected
-    ensures { λ r. ⌜ r ≡ collected line byte ⌝ }
+pub fn answered(line: Line, byte: u8) -> Collected
+    ensures { λ r. ⌜ Answered line byte r ⌝ }
 {
     if !line.is_valid() {
         return Collected {
@@ -56,11 +54,11 @@ pub fn answer(line: Line, byte: u8) -> Collected
 
 // The collector is updated where it is kept.
 pub fn collect(line: &mut Line, byte: u8) -> Collected
-    ensures { λ r. ⌜ Gives (collected (now (line .entry)) byte) (lineAfter (now (line .entry)) byte) r (now (line .exit)) ⌝ }
+    ensures { λ r. ⌜ Collect (now (line .entry)) byte r (now (line .exit)) ⌝ }
 {
     let old = *line;
     *line = line_after(old, byte);
-    answer(old, byte)
+    answered(old, byte)
 }
 
 // The collector after a received byte, and the answer.
@@ -71,7 +69,7 @@ pub struct Updated {
 
 // Lends a collector held by value to `collect`: a caller of this one needs no proof by hand.
 pub fn lend(line: Line, byte: u8) -> Updated
-    ensures { λ r. ⌜ r ≡ updated line byte ⌝ }
+    ensures { λ r. ⌜ Lend line byte r ⌝ }
 {
     let mut kept = line;
     let answer = collect(&mut kept, byte);

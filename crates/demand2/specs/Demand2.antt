@@ -9,25 +9,42 @@ use Rattle.refusal.specs.Answer.{accepted}
 use Rattle.refusal.specs.declared.Refusal.the-variants.{Field, Setting}
 use Rattle.refusal.specs.declared.Verdict.the-variants.{Done}
 use Rattle.codec.specs.Codec.{textOk}
+use Rattle.codec.specs.Ranges.{LowestBy}
 use Rattle.frame.specs.Faithful.{Faithful}
+use Rattle.frame.specs.Refuses.{Refuses}
 use Rattle.record.specs.Record.{recordLowest}
 use Rattle.record.specs.Forms.{textForm, packedForm}
-use Rattle.fixed.specs.Fixed.{fixedLowest}
+use Rattle.record.specs.Places.{textPlaces, packedPlaces}
+use Rattle.record.specs.Ranges.{recordRanges}
+use Rattle.fixed.specs.Fixed.{fixedLowest, settingsLowest}
 use Rattle.fixed.specs.Form.{fixedForm}
+use Rattle.fixed.specs.Places.{fixedPlaces}
+use Rattle.fixed.specs.Ranges.{fixedRanges, settingsRanges}
 use Rattle.units.specs.Units.{isUnit, Converts, conversion}
 use Rattle.units.specs.Measurement.{measurementVerdict, recordIn}
+use Rattle.units.specs.Refuses.{UnitsRefuse}
 use Rattle.units.specs.declared.Measurement.{Measurement}
 
 pub record Demand2 : Type 0 where
+  -- "lowest field", "lowest item": the rules of what may be sent and set are document 01's tables of ranges
+  pub record-rule : LowestBy recordLowest recordRanges
+  pub fixed-rule : LowestBy fixedLowest fixedRanges
+  pub settings-rule : LowestBy settingsLowest settingsRanges
   -- the text record, 76 or 78 bytes; the packed record, 41 or 43; one rule for both
   pub text : Faithful textForm recordLowest Field 76
   pub packed : Faithful packedForm recordLowest Field 41
   -- the fixed data, 67 or 69
   pub fixed : Faithful fixedForm fixedLowest Setting 67
+  -- "No number is given outside its case; where no case holds, the entry does its work": 3, 4, 5, 6 for the readers, 1 or 8 and then 2 for the writers
+  pub text-refuses : Refuses textForm recordLowest Field 76 textPlaces
+  pub packed-refuses : Refuses packedForm recordLowest Field 41 packedPlaces
+  pub fixed-refuses : Refuses fixedForm fixedLowest Setting 67 fixedPlaces
   -- "1 unit of 0.1 inch is exactly 2.54 mm, nearest whole number, halves away from zero", in either direction
   pub converts : (field : ℕ) (z r : ℤ) (unit wanted : ℕ) → conversion field z unit wanted ≡ accepted r → Converts unit wanted z r
   -- "alike: number unchanged"
   pub alike : (field : ℕ) (z r : ℤ) (unit : ℕ) → conversion field z unit unit ≡ accepted r → r ≡ z
+  -- the conversion's 1 and a measurement's, each exactly in its case
+  pub units-refuse : UnitsRefuse
   -- "so each measurement is sendable in either unit": an accepted one, with a serial of nine text bytes
   pub sendable : (m : Measurement) (display : ℕ) (serial : List ℕ) → measurementVerdict m ≡ Done → isUnit display ≡ true →
       textOk 9 serial ≡ true → recordLowest (recordIn display m serial) ≡ 0

@@ -3,7 +3,8 @@
 ghost use mathlib.Core.Path.{_≡_};
 ghost use Prim.Native.Nat.{_+_, _≤_, _<_};
 ghost use Rattle.laws.specs.Over.{over};
-ghost use Rattle.digits.specs.Digits.{digits, decimal, groups, readField, readDecimal, readGroups};
+ghost use Rattle.digits.specs.Digits.{digits, readField};
+ghost use Rattle.digits.specs.Contracts.{PutDecimal, PutGroups, ReadDecimal, ReadGroups};
 
 // What the bytes of a field hold: a number, or what no writer writes.
 pub enum Field {
@@ -61,28 +62,28 @@ fn get(s: &[u8], base: u64, off: u64, top: u32) -> Field
 
 // Writes width decimal digits, with leading zeros.
 pub fn put_decimal(out: &mut [u8], at: usize, width: usize, n: u32)
-    ensures { λ _. ⌜ now (out .exit) ≡ over (now (out .entry)) at (decimal width n) ⌝ }
+    ensures { λ _. ⌜ PutDecimal (now (out .entry)) at width n (now (out .exit)) ⌝ }
 {
     put(out, at, width, 10, b'0' as u32, n);
 }
 
 // Writes width groups of six bits, each under bits 01; unused high bits are 0.
 pub fn put_groups(out: &mut [u8], at: usize, width: usize, n: u32)
-    ensures { λ _. ⌜ now (out .exit) ≡ over (now (out .entry)) at (groups width n) ⌝ }
+    ensures { λ _. ⌜ PutGroups (now (out .entry)) at width n (now (out .exit)) ⌝ }
 {
     put(out, at, width, 64, 64, n);
 }
 
 // Reads decimal digits of a number that is at most top.
 pub fn read_decimal(s: &[u8], top: u32) -> Field
-    ensures { λ r. ⌜ r ≡ readDecimal top (now (s .entry)) ⌝ }
+    ensures { λ r. ⌜ ReadDecimal (now (s .entry)) top r ⌝ }
 {
     get(s, 10, b'0' as u64, top)
 }
 
 // Reads groups of six bits of a number that is at most top.
 pub fn read_groups(s: &[u8], top: u32) -> Field
-    ensures { λ r. ⌜ r ≡ readGroups top (now (s .entry)) ⌝ }
+    ensures { λ r. ⌜ ReadGroups (now (s .entry)) top r ⌝ }
 {
     get(s, 64, 64, top)
 }

@@ -5,9 +5,10 @@
 // On an input that waits, as a file or a pipe, it is the session program: after the start and after each
 // byte slots run until idle, at most 400. On a line, a turn is a slot: its byte is written, and a received
 // byte is taken if one has come. While the lens sends, the driver does not wait for input; where nothing is
-// left to send, it does; and sixteen slots that send take at least their time at the port's rate. So that
-// it can look without waiting, whoever starts it sets O_NONBLOCK on standard input. Until a look has come
-// back empty, it takes its input for one that waits.
+// left to send, it does. After every sixteenth slot that sent, it sleeps for the time of sixteen at the rate
+// that the port has then; a signal may end a sleep early. So that it can look without waiting, whoever starts
+// it sets O_NONBLOCK on standard input. Until a look has come back empty, it takes its input for one that
+// waits.
 use libc::EAGAIN;
 use libc::EINTR;
 use libc::STDERR_FILENO;
@@ -224,12 +225,13 @@ fn start_letter() -> u8 {
 }
 
 fn main() {
-    let handed = Port::start(
+    let started = Port::start(
         Port::unstarted(),
-        bench_lens::settings(start_letter()),
-        bench_lens::measurement(),
+        Line::blank(),
+        bench_lens::bench_settings(start_letter()),
+        bench_lens::bench_measurement(),
     );
-    let verdict = handed.verdict;
+    let verdict = started.verdict;
     if let Verdict::Refused(_) = verdict {
         io::write_all(
             STDERR_FILENO,
@@ -237,11 +239,9 @@ fn main() {
         );
         return;
     }
-    let port = handed.port;
-    let lens = Held {
-        port,
-        line: Line::blank(),
-    };
+    let port = started.port;
+    let line = started.line;
+    let lens = Held { port, line };
     // standard input once more, as a descriptor that waits
     let waiting = os::open_read(b"/dev/stdin");
     run(

@@ -371,12 +371,13 @@ fn start_letter() -> u8 {
 }
 
 fn main() {
-    let handed = Port::start(
+    let started = Port::start(
         Port::unstarted(),
-        bench_lens::settings(start_letter()),
-        bench_lens::measurement(),
+        Line::blank(),
+        bench_lens::bench_settings(start_letter()),
+        bench_lens::bench_measurement(),
     );
-    let verdict = handed.verdict;
+    let verdict = started.verdict;
     if let Verdict::Refused(_) = verdict {
         io::write_all(
             STDERR_FILENO,
@@ -384,10 +385,11 @@ fn main() {
         );
         return;
     }
-    let port = handed.port;
+    let port = started.port;
+    let line = started.line;
     run_all(Desk {
         port,
-        line: Line::blank(),
+        line,
         event: no_event(),
         unwritten: 0,
         taken: 0,

@@ -5,7 +5,7 @@ use native.Mathlib.Omega.{arith}
 use mathlib.Core.Bool.{true}
 use mathlib.Core.List.{List, [], _∷_, _++_, append-assoc, append-nil}
 use mathlib.Core.Path.{_≡_, refl, sym, ap, ap₂, subst, _∙_}
-use borrow.Author.Tests.{lt-ltb, ne-eqb}
+use borrow.Author.Tests.{lt-ltb, le-ltb, ne-eqb}
 use lib.Dec.{eqb}
 use lib.ListN.{length, getD, take, drop, set, length-append}
 use lib.Seq.{drop-cons}
@@ -23,7 +23,7 @@ use Rattle.port.specs.declared.Port.{Port}
 use Rattle.port.specs.declared.Slotted.{Slotted}
 use Rattle.port.specs.declared.Sent.{Sent}
 use Rattle.port.specs.declared.Sent.the-variants.{Byte, Idle, Refused}
-use Rattle.port.specs.Port.{validPort, movedIf, sentUpTo, sendFrom, slotOf}
+use Rattle.port.specs.Port.{validPort, movedIf, sentUpTo, sendFrom, chooseOf, slotOf}
 use Rattle.fill.specs.declared.Onward.{Onward}
 use Rattle.fill.specs.Fill.{Run, thenRun, runOf, ahead, Sends, Goes}
 
@@ -64,6 +64,11 @@ then-sends {p} {q} {t} {n} {k} {xs} {ys} a b = record {
 under-way : (p : Port) → validPort p ≡ true → p .message .at < p .message .len → slotOf p ≡ sendFrom p (p .message .at)
 unfolding slotOf
 under-way p v h = cond-yes _ _ v ∙ cond-yes _ _ (lt-ltb _ _ h)
+
+-- where none is, the rules choose
+pub chooses : (p : Port) → validPort p ≡ true → p .message .at ≡ p .message .len → chooseOf p ≡ slotOf p
+unfolding slotOf
+chooses p v e = sym (cond-yes _ _ v ∙ cond-no _ _ (le-ltb (p .message .at) (p .message .len) (omega arith)))
 
 -- before its end the message moves nothing
 not-moved : (s : Source) (at len : ℕ) → at < len → movedIf (eqb at len) s ≡ s
@@ -127,7 +132,7 @@ goes-on (suc n) p h v long low = rest-sends n p v long low
 
 -- ---- the loop
 
--- what holds at its head: i slots have been run, and what they sent is written over the start of the buffer
+-- i slots have been run, and what they sent is written over the start of the buffer
 pub record At (l₀ : List ℕ) (p : Port) (l : List ℕ) (q : Port) (i : ℕ) : Type 0 where
   pub sent : List ℕ
   pub sends : Sends p i sent q
@@ -136,6 +141,11 @@ pub record At (l₀ : List ℕ) (p : Port) (l : List ℕ) (q : Port) (i : ℕ) :
 
 pub begins : (l₀ : List ℕ) (p : Port) → validPort p ≡ true → At l₀ p l₀ p 0
 begins l₀ p v = record { sent = []; sends = none-sends p v; within = omega arith; written = sym (over-fits l₀ [] 0 (omega arith)) }
+
+-- so it is at the loop's head, where no message is under way while there is room left
+pub record Head (l₀ : List ℕ) (p : Port) (l : List ℕ) (q : Port) (i : ℕ) : Type 0 where
+  pub so-far : At l₀ p l q i
+  pub ended : i < length l → q .message .at ≡ q .message .len
 
 -- the buffer is as long as it was
 pub as-long : {l₀ l : List ℕ} {p q : Port} {i : ℕ} → At l₀ p l q i → length l ≡ length l₀
@@ -180,6 +190,14 @@ module _ {l₀ : List ℕ} {p : Port} {l : List ℕ} {q : Port} {i : ℕ} (a : A
       let m = as-long a in
       let h : i + r .count ≤ length l = g .fits in
       subst (λ (x : List ℕ). At l₀ p x (r .port) (i + r .count)) (sym (g .leaves)) (further (g .sends) (omega arith))
+
+  -- and leaves the loop's head
+  pub at-head : {r : Onward} {after : List ℕ} → Goes q l i r after → Head l₀ p after (r .port) (i + r .count)
+  at-head {r} {after} g =
+      let b = onward g in
+      let m = as-long a in
+      let n = as-long b in
+      record { so-far = b; ended = λ h. g .ended (omega arith) }
 
   -- one byte is stored
   pub stored : {b : ℕ} {t : Port} → Sends q 1 (b ∷ []) t → i < length l → At l₀ p (set l i b) t (i + 1)

@@ -2,11 +2,13 @@
 use Prim.Native.Nat.{ℕ, zero, suc, _≤_}
 use mathlib.Core.Bool.{true, false}
 use mathlib.Core.List.{List}
+use mathlib.Core.Logic.{_↔_}
 use mathlib.Core.Path.{_≡_, sym, ap, subst, _∙_}
 use native.Mathlib.Omega.{arith}
 use lib.ListN.{length}
 use Rattle.laws.proofs.Tests.{cond-yes, cond-no, told, never}
 use Rattle.refusal.specs.declared.Refusal.{Refusal}
+use Rattle.refusal.specs.declared.Refusal.the-variants as refusal
 use Rattle.refusal.specs.declared.Verdict.the-variants.{Done, Refused}
 use Rattle.port.specs.declared.Port.{Port}
 use Rattle.port.specs.declared.Sent.{Sent}
@@ -25,6 +27,19 @@ was-invalid p n r e =
     (λ v. let z : Done ≡ Refused r = sym (ap (λ (x : Filled). x .verdict) (cond-yes _ _ v)) ∙ e in never (cc))
     (λ f. f)
 
+refused-16 : (p : Port) (n : ℕ) → validPort p ≡ false → fillOf p n .verdict ≡ Refused refusal.State
+unfolding fillOf
+refused-16 p n f = ap (λ (x : Filled). x .verdict) (cond-no _ _ f)
+
+by-case : (p : Port) (n : ℕ) (r : Refusal) → (fillOf p n .verdict ≡ Refused r) ↔ ((validPort p ≡ false) × (r ≡ refusal.State))
+by-case p n r = (
+  λ e.
+      let f = was-invalid p n r e in
+      let z : Refused r ≡ Refused refusal.State = sym e ∙ refused-16 p n f in
+      (f, cc),
+  λ h. refused-16 p n (h .0) ∙ ap Refused (sym (h .1)),
+)
+
 refused-port : (p : Port) (n : ℕ) (r : Refusal) → fillOf p n .verdict ≡ Refused r → fillOf p n .port ≡ p
 unfolding fillOf
 refused-port p n r e = ap (λ (x : Filled). x .port) (cond-no _ _ (was-invalid p n r e))
@@ -38,7 +53,7 @@ then-most (sent.Byte b) q r n h = omega arith
 then-most sent.Idle q r n h = omega arith
 then-most (sent.Refused x) q r n h = omega arith
 
-run-most : (p : Port) (n : ℕ) → length (runOf n p .bytes) ≤ n
+pub run-most : (p : Port) (n : ℕ) → length (runOf n p .bytes) ≤ n
 unfolding runOf
 run-most p zero = omega arith
 run-most p (suc n) = then-most (slotOf p .sent) (slotOf p .port) (runOf n (slotOf p .port)) n (run-most (slotOf p .port) n)
@@ -75,4 +90,4 @@ unfolding fillOf runOf
 none p = told (validPort p) (λ v. ap (λ (x : Filled). x .count) (cond-yes _ _ v)) (λ n. ap (λ (x : Filled). x .count) (cond-no _ _ n))
 
 pub promised : Promised
-promised = record { refused-port = refused-port; refused-bytes = refused-bytes; at-most = at-most; empty = empty; none = none; kept-valid = kept-valid }
+promised = record { by-case = by-case; refused-port = refused-port; refused-bytes = refused-bytes; at-most = at-most; empty = empty; none = none; kept-valid = kept-valid }

@@ -1,5 +1,5 @@
 -- "slots run until it is full or one is idle, and the number of bytes written comes back equal to the sending slots run; bytes past it stay."
-use Prim.Native.Nat.{ℕ, zero, suc, _+_, _≤_}
+use Prim.Native.Nat.{ℕ, zero, suc, _+_, _≤_, _<_}
 use mathlib.Core.Bool.{true, cond}
 use mathlib.Core.List.{List, [], _∷_, _++_}
 use mathlib.Core.Path.{_≡_}
@@ -50,6 +50,8 @@ pub record Goes (p : Port) (out : List ℕ) (from : ℕ) (r : Onward) (after : L
   pub sends : Sends p (r .count) sent (r .port)
   pub fits : from + r .count ≤ length out
   pub leaves : after ≡ over out from sent
+  -- where there is room left, the message has ended
+  pub ended : from + r .count < length out → r .port .message .at ≡ r .port .message .len
 
 -- 16 before all; the count is the sending slots of the run
 unfoldable pub fillOf : Port → ℕ → Filled

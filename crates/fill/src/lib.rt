@@ -7,9 +7,9 @@ ghost use mathlib.Core.Path.{_≡_};
 ghost use mathlib.Core.Bool.{true};
 ghost use Prim.Native.Nat.{_≤_};
 ghost use lib.ListN.{length};
-ghost use Rattle.laws.specs.Gives.{Gives};
 ghost use Rattle.port.specs.Port.{validPort};
-ghost use Rattle.fill.specs.Fill.{Goes, leastOf, fillOf, fillLeaves};
+ghost use Rattle.fill.specs.Fill.{Goes, leastOf};
+ghost use Rattle.fill.specs.Contracts.{Fill};
 
 pub struct Filled {
     pub verdict: Verdict,
@@ -56,7 +56,7 @@ fn go_on(port: Port, out: &mut [u8], from: usize) -> Onward
 // Runs at most as many slots as the buffer has bytes; an idle one is run and not counted. The slots of a
 // message are run together.
 pub fn fill(port: Port, out: &mut [u8]) -> Filled
-    ensures { λ r. ⌜ Gives (fillOf port (length (now (out .entry)))) (fillLeaves port (now (out .entry))) r (now (out .exit)) ⌝ }
+    ensures { λ r. ⌜ Fill port (now (out .entry)) r (now (out .exit)) ⌝ }
 {
     if !port.is_valid() {
         return Filled {
@@ -65,10 +65,11 @@ pub fn fill(port: Port, out: &mut [u8]) -> Filled
             port,
         };
     }
-    let mut q = port;
-    let mut i = 0;
+    let under_way = go_on(port, out, 0);
+    let mut q = under_way.port;
+    let mut i = under_way.count;
     while i < out.len() {
-        let s = port::advance(q);
+        let s = port::choose(q);
         let sent = s.sent;
         q = s.port;
         match sent {

@@ -1,4 +1,5 @@
 pub mod Exact
 pub mod Fine
 pub mod Given
+pub mod Ranges
 pub mod Unique

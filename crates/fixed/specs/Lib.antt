@@ -1,2 +1,5 @@
 pub mod Fixed
 pub mod Form
+pub mod Contracts
+pub mod Places
+pub mod Ranges

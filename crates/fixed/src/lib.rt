@@ -3,9 +3,9 @@ use refusal::Refusal;
 use refusal::Verdict;
 ghost use mathlib.Core.Path.{_≡_};
 ghost use lib.Dec.{eqb};
-ghost use Rattle.refusal.specs.Answer.{accepted, refused};
 ghost use Rattle.codec.specs.Codec.{textOk};
-ghost use Rattle.fixed.specs.Fixed.{kindOk, letterOk, blurOk, lensLowest, fixedLowest, settingsLowest, fixedFilled, fixedRead};
+ghost use Rattle.fixed.specs.Fixed.{blurOk, lensLowest, fixedLowest};
+ghost use Rattle.fixed.specs.Contracts.{AcceptedFixed, RefusedFixed, IsKind, IsLetter, LowestItem, LowestSetting, AreSettings, FixedFrom};
 
 // How many bytes the contents of the N message take.
 pub const FIXED_LENGTH: usize = 65;
@@ -58,7 +58,7 @@ pub struct FixedRead {
 
 // Fixed data handed back.
 pub fn accepted_fixed(f: Fixed) -> FixedRead
-    ensures { λ r. ⌜ r ≡ fixedRead (accepted f) ⌝ }
+    ensures { λ r. ⌜ AcceptedFixed f r ⌝ }
 {
     FixedRead {
         verdict: Verdict::Done,
@@ -68,7 +68,7 @@ pub fn accepted_fixed(f: Fixed) -> FixedRead
 
 // Fixed data refused.
 pub fn refused_fixed(r: Refusal) -> FixedRead
-    ensures { λ a. ⌜ a ≡ fixedRead (refused r) ⌝ }
+    ensures { λ a. ⌜ RefusedFixed r a ⌝ }
 {
     let contents = Fixed {
         serial: [0; 9],
@@ -88,14 +88,14 @@ pub fn refused_fixed(r: Refusal) -> FixedRead
 
 // Whether a byte is a lens type.
 pub fn is_kind(b: u8) -> bool
-    ensures { λ r. ⌜ r ≡ kindOk b ⌝ }
+    ensures { λ r. ⌜ IsKind b r ⌝ }
 {
     (b == b'P') | (b == b'Z')
 }
 
 // Whether a byte is a start-up letter.
 pub fn is_letter(b: u8) -> bool
-    ensures { λ r. ⌜ r ≡ letterOk b ⌝ }
+    ensures { λ r. ⌜ IsLetter b r ⌝ }
 {
     (b == b'I') | (b == b'M') | (b == b'B') | (b == b'b')
 }
@@ -145,7 +145,7 @@ fn lowest_of_lens(l: Lens) -> u32
 
 // The lowest item out of range, or 0 where the fixed data may be sent.
 pub fn lowest_item(f: Fixed) -> u32
-    ensures { λ i. ⌜ i ≡ fixedLowest f ⌝ }
+    ensures { λ i. ⌜ LowestItem f i ⌝ }
 {
     let serial = f.serial;
     if !is_item(&serial, 9) {
@@ -175,7 +175,7 @@ pub fn lowest_item(f: Fixed) -> u32
 
 // The lowest item out of range, or 0 where a port may start with these settings.
 pub fn lowest_setting(s: Settings) -> u32
-    ensures { λ i. ⌜ i ≡ settingsLowest s ⌝ }
+    ensures { λ i. ⌜ LowestSetting s i ⌝ }
 {
     let fixed = s.fixed;
     let lowest = lowest_item(fixed);
@@ -225,7 +225,7 @@ fn is_fixed(f: Fixed) -> bool
 
 // Whether a port may start with these settings.
 pub fn are_settings(s: Settings) -> bool
-    ensures { λ r. ⌜ r ≡ eqb (settingsLowest s) 0 ⌝ }
+    ensures { λ r. ⌜ AreSettings s r ⌝ }
 {
     let fixed = s.fixed;
     let items = is_fixed(fixed);
@@ -237,7 +237,7 @@ pub fn are_settings(s: Settings) -> bool
 
 // The items put together. A text of another length is left as zeros, which no text holds, so that it stays out of range.
 pub fn fixed_from(serial: &[u8], owner: &[u8], lens: Lens, version: &[u8]) -> Fixed
-    ensures { λ f. ⌜ f ≡ fixedFilled (now (serial .entry)) (now (owner .entry)) lens (now (version .entry)) ⌝ }
+    ensures { λ f. ⌜ FixedFrom (now (serial .entry)) (now (owner .entry)) lens (now (version .entry)) f ⌝ }
 {
     let mut nine = [0; 9];
     codec::put_item(&mut nine, serial);

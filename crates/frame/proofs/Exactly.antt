@@ -76,7 +76,7 @@ ended-at m w k l e =
     two-is (drop (w + k) m) (simp length-drop (omega arith))
     ∙ ap₂ (λ (x y : ℕ). x ∷ y ∷ []) (at m (w + k) 0 (length m - 2) 10 (omega arith) p) (at m (w + k) 1 (length m - 1) 13 (omega arith) q)
 
-ending-is : (checksum : Bool) (w : ℕ) (m : List ℕ) → Opens checksum w m → drop w m ≡ ending checksum (take w m)
+pub ending-is : (checksum : Bool) (w : ℕ) (m : List ℕ) → Opens checksum w m → drop w m ≡ ending checksum (take w m)
 unfolding sums ending
 ending-is false w m o = ap (λ (x : ℕ). drop x m) (sym (add-zero w)) ∙ ended-at m w 0 (o .long) (o .ended)
 ending-is true w m o =
@@ -115,7 +115,7 @@ test-at b t w k j v l e h =
 pub framed-long : (checksum : Bool) (w : ℕ) (b : List ℕ) → length b ≡ w → length (framed checksum b) ≡ w + endingWidth checksum
 framed-long checksum w b l = length-append b (ending checksum b) ∙ ap₂ _+_ l (ending-long checksum b)
 
-framed-ends : (checksum : Bool) (w : ℕ) (b : List ℕ) → length b ≡ w → isEnded (framed checksum b) ≡ true
+pub framed-ends : (checksum : Bool) (w : ℕ) (b : List ℕ) → length b ≡ w → isEnded (framed checksum b) ≡ true
 unfolding isEnded ending
 framed-ends true w b l =
     let n = framed-long true w b l in
@@ -136,7 +136,7 @@ framed-sums w b l =
     (test-at b (ending true b) w 0 w (sumOf b .high) l (omega arith) refl)
     (test-at b (ending true b) w 1 (w + 1) (sumOf b .low) l (omega arith) refl))
 
-framed-opens : (checksum : Bool) (w : ℕ) (b : List ℕ) → length b ≡ w → Opens checksum w (framed checksum b)
+pub framed-opens : (checksum : Bool) (w : ℕ) (b : List ℕ) → length b ≡ w → Opens checksum w (framed checksum b)
 framed-opens checksum w b l = record {
   long = framed-long checksum w b l;
   ended = framed-ends checksum w b l;

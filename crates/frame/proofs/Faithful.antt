@@ -11,7 +11,7 @@ use Rattle.frame.specs.Faithful.{Faithful}
 use Rattle.frame.proofs.Exactly.{exactly, reads-only, reads-written, one-contents, framed-long}
 use Rattle.frame.proofs.Left.{left-same, left-message}
 
-ending-by : (w : ℕ) (checksum : Bool) → w + endingWidth checksum ≡ cond checksum (w + 2 + 2) (w + 2)
+pub ending-by : (w : ℕ) (checksum : Bool) → w + endingWidth checksum ≡ cond checksum (w + 2 + 2) (w + 2)
 ending-by w true = omega arith
 ending-by w false = refl
 

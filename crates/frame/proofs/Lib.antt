@@ -2,4 +2,5 @@ pub mod Exactly
 pub mod Answers
 pub mod Left
 pub mod Faithful
+pub mod Refuses
 pub mod Unique

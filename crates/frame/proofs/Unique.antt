@@ -1,30 +1,26 @@
 -- One answer, and one content of lent memory, for each contract of this crate. Assumes nothing.
-use Prim.Native.Nat.{ℕ, _+_}
+use Prim.Native.Nat.{ℕ}
 use mathlib.Core.Bool.{Bool}
 use mathlib.Core.List.{List}
 use mathlib.Core.Path.{_≡_}
-use lib.ListN.{take}
-use Rattle.laws.specs.Over.{over}
 use Rattle.laws.proofs.OneAnswer.{one-answer}
 use Rattle.refusal.specs.declared.Verdict.{Verdict}
-use Rattle.frame.specs.Frame.{sumOf, ending, endingWidth, opening}
-use Rattle.frame.specs.Message.{roomFor, wroteOf}
+use Rattle.frame.specs.Contracts.{SumOf, EndingWidth, RoomFor, PutEnding, Open}
 use Rattle.frame.specs.declared.Sum.{Sum}
 use Rattle.frame.specs.declared.Wrote.{Wrote}
 
-pub one-sum-of : (s : List ℕ) {r r′ : Sum} → r ≡ sumOf s → r′ ≡ sumOf s → r ≡ r′
+pub one-sum-of : (s : List ℕ) {r r′ : Sum} → SumOf s r → SumOf s r′ → r ≡ r′
 one-sum-of s = one-answer
 
-pub one-ending-width : (checksum : Bool) {r r′ : ℕ} → r ≡ endingWidth checksum → r′ ≡ endingWidth checksum → r ≡ r′
+pub one-ending-width : (checksum : Bool) {r r′ : ℕ} → EndingWidth checksum r → EndingWidth checksum r′ → r ≡ r′
 one-ending-width checksum = one-answer
 
-pub one-room-for : (len width : ℕ) (checksum : Bool) {r r′ : Wrote} →
-    r ≡ wroteOf (roomFor (width + endingWidth checksum) len) → r′ ≡ wroteOf (roomFor (width + endingWidth checksum) len) → r ≡ r′
+pub one-room-for : (len width : ℕ) (checksum : Bool) {r r′ : Wrote} → RoomFor len width checksum r → RoomFor len width checksum r′ → r ≡ r′
 one-room-for len width checksum = one-answer
 
 pub one-put-ending : (out : List ℕ) (n : ℕ) (checksum : Bool) {after after′ : List ℕ} →
-    after ≡ over out n (ending checksum (take n out)) → after′ ≡ over out n (ending checksum (take n out)) → after ≡ after′
+    PutEnding out n checksum after → PutEnding out n checksum after′ → after ≡ after′
 one-put-ending out n checksum = one-answer
 
-pub one-open : (m : List ℕ) (width : ℕ) (checksum : Bool) {r r′ : Verdict} → r ≡ opening checksum width m → r′ ≡ opening checksum width m → r ≡ r′
+pub one-open : (m : List ℕ) (width : ℕ) (checksum : Bool) {r r′ : Verdict} → Open m width checksum r → Open m width checksum r′ → r ≡ r′
 one-open m width checksum = one-answer

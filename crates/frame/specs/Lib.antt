@@ -1,3 +1,5 @@
 pub mod Frame
 pub mod Message
 pub mod Faithful
+pub mod Contracts
+pub mod Refuses

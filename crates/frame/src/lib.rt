@@ -3,12 +3,11 @@
 use refusal::Refusal;
 use refusal::Verdict;
 ghost use mathlib.Core.Path.{_≡_};
-ghost use Prim.Native.Nat.{_+_, _^_, _≤_, _<_};
+ghost use Prim.Native.Nat.{_+_, _≤_};
 ghost use lib.Dec.{eqb};
-ghost use lib.ListN.{length, take};
-ghost use Rattle.laws.specs.Over.{over};
-ghost use Rattle.frame.specs.Frame.{xorFrom, sumOf, ending, endingWidth, isEnded, sums, opening};
-ghost use Rattle.frame.specs.Message.{roomFor, wroteOf};
+ghost use lib.ListN.{length};
+ghost use Rattle.frame.specs.Frame.{xorFrom, endingWidth, isEnded, sums};
+ghost use Rattle.frame.specs.Contracts.{SumOf, EndingWidth, RoomFor, PutEnding, Open};
 
 // The two characters of a checksum.
 pub struct Sum {
@@ -37,7 +36,7 @@ fn xor_of(s: &[u8]) -> u8
 
 // The checksum of some bytes: 40 hex plus each half.
 pub fn sum_of(s: &[u8]) -> Sum
-    ensures { λ r. ⌜ r ≡ sumOf (now (s .entry)) ⌝ }
+    ensures { λ r. ⌜ SumOf (now (s .entry)) r ⌝ }
 {
     let x = xor_of(s);
     Sum {
@@ -48,17 +47,16 @@ pub fn sum_of(s: &[u8]) -> Sum
 
 // How many bytes stand behind the contents.
 pub fn ending_width(checksum: bool) -> usize
-    ensures { λ r. ⌜ r ≡ endingWidth checksum ⌝ }
+    ensures { λ r. ⌜ EndingWidth checksum r ⌝ }
 {
     if checksum { 4 } else { 2 }
 }
 
 // Whether a message whose contents take width bytes fits into a memory of len: what its writer answers.
-pub fn room_for(len: usize, width: usize, checksum: bool) -> Wrote
-    requires { ⌜ width < 2 ^ 32 ⌝ }
-    ensures { λ r. ⌜ r ≡ wroteOf (roomFor (width + endingWidth checksum) len) ⌝ }
+pub fn room_for(len: usize, width: u32, checksum: bool) -> Wrote
+    ensures { λ r. ⌜ RoomFor len width checksum r ⌝ }
 {
-    let n = width + ending_width(checksum);
+    let n = width as usize + ending_width(checksum);
     if len < n {
         return Wrote::Refused(Refusal::Room(n));
     }
@@ -67,7 +65,7 @@ pub fn room_for(len: usize, width: usize, checksum: bool) -> Wrote
 
 // Ends the message whose contents are the first n bytes.
 pub fn put_ending(out: &mut [u8], n: usize, checksum: bool)
-    ensures { λ _. ⌜ now (out .exit) ≡ over (now (out .entry)) n (ending checksum (take n (now (out .entry)))) ⌝ }
+    ensures { λ _. ⌜ PutEnding (now (out .entry)) n checksum (now (out .exit)) ⌝ }
 {
     if !lent::has_room(out.len(), n, ending_width(checksum)) {
         return;
@@ -112,7 +110,7 @@ fn is_summed(m: &[u8], width: usize) -> bool
 
 // Opens a message whose contents take width bytes: its length, its end and its checksum, in this order.
 pub fn open(m: &[u8], width: usize, checksum: bool) -> Verdict
-    ensures { λ r. ⌜ r ≡ opening checksum width (now (m .entry)) ⌝ }
+    ensures { λ r. ⌜ Open (now (m .entry)) width checksum r ⌝ }
 {
     let n = m.len();
     if !has_length(n, width, checksum) {

@@ -3,13 +3,12 @@ use Prim.Native.Nat.{ℕ}
 use mathlib.Core.List.{List}
 use mathlib.Core.Path.{_≡_, refl, sym, ap, _∙_}
 use Rattle.laws.proofs.OneAnswer.{one-answer}
-use Rattle.frame.specs.Message.{found}
-use Rattle.codec.specs.Codec.{Got, got, wrong, mapped, both}
-use Rattle.record.specs.Forms.{Front, Back, figuresOf}
-use Rattle.record.specs.Record.{recordRead}
+use Rattle.codec.specs.Codec.{Got, got, wrong}
+use Rattle.record.specs.Forms.{Front, Back}
 use Rattle.record.specs.declared.Figures.{Figures}
 use Rattle.record.specs.declared.RecordRead.{RecordRead}
-use Rattle.gather.specs.Gather.{fourSays, threeSays, elevenSays, recordSays}
+use Rattle.gather.specs.Gather.{fourSays, threeSays, elevenSays}
+use Rattle.gather.specs.Contracts.{Gather, WithSerial}
 use Rattle.gather.specs.declared.Four.{Four}
 use Rattle.gather.specs.declared.Four.the-variants as four
 use Rattle.gather.specs.declared.Three.{Three}
@@ -54,10 +53,8 @@ unfolding saidEleven elevenSays
 eleven-back (eleven.Found f) = refl
 eleven-back (eleven.Wrong i) = refl
 
-pub one-gather : (front middle : Four) (back : Three) {r r′ : Eleven} →
-    elevenSays r ≡ mapped figuresOf (both (fourSays front) (both (fourSays middle) (threeSays back))) →
-    elevenSays r′ ≡ mapped figuresOf (both (fourSays front) (both (fourSays middle) (threeSays back))) → r ≡ r′
+pub one-gather : (front middle : Four) (back : Three) {r r′ : Eleven} → Gather front middle back r → Gather front middle back r′ → r ≡ r′
 one-gather front middle back = told-by elevenSays saidEleven eleven-back
 
-pub one-with-serial : (eleven : Eleven) (s : List ℕ) {a a′ : RecordRead} → a ≡ recordRead (found (recordSays eleven s)) → a′ ≡ recordRead (found (recordSays eleven s)) → a ≡ a′
+pub one-with-serial : (eleven : Eleven) (s : List ℕ) {a a′ : RecordRead} → WithSerial eleven s a → WithSerial eleven s a′ → a ≡ a′
 one-with-serial eleven s = one-answer

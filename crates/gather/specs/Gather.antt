@@ -1,7 +1,7 @@
 -- What the readers of the groups say: the numbers found, or the first wrong field.
 use Prim.Native.Nat.{ℕ}
 use mathlib.Core.List.{List}
-use Rattle.codec.specs.Codec.{Got, got, wrong, both, mapped}
+use Rattle.codec.specs.Codec.{Got, got, wrong, both, mapped, parsed}
 use Rattle.record.specs.Forms.{Front, Back, serial}
 use Rattle.record.specs.declared.Figures.{Figures}
 use Rattle.record.specs.declared.Record.{Record}
@@ -29,6 +29,6 @@ elevenSays (eleven.Wrong i) = wrong i
 abbrev pub recordWith : Figures × List ℕ → Record
 recordWith p = record { figures = p .0; serial = p .1 }
 
--- fields 1 to 11 as they were found, and field 12 in its bytes s
+-- fields 1 to 11 as they were found, and field 12 in its bytes s, wrong where they are not ten
 unfoldable pub recordSays : Eleven → List ℕ → Got Record
-recordSays e s = mapped recordWith (both (elevenSays e) (serial .parse s))
+recordSays e s = mapped recordWith (both (elevenSays e) (parsed serial 12 s))

@@ -4,13 +4,7 @@ use record::Figures;
 use record::Record;
 use record::RecordRead;
 use refusal::Refusal;
-ghost use mathlib.Core.Path.{_≡_};
-ghost use lib.ListN.{length};
-ghost use Rattle.codec.specs.Codec.{mapped, both};
-ghost use Rattle.frame.specs.Message.{found};
-ghost use Rattle.record.specs.Forms.{figuresOf};
-ghost use Rattle.record.specs.Record.{recordRead};
-ghost use Rattle.gather.specs.Gather.{fourSays, threeSays, elevenSays, recordSays};
+ghost use Rattle.gather.specs.Contracts.{Gather, WithSerial};
 
 // Fields 1 to 4 or 5 to 8, or the first wrong one.
 pub enum Four {
@@ -32,7 +26,7 @@ pub enum Eleven {
 
 // The three groups as fields 1 to 11; of several wrong fields the first.
 pub fn gather(front: Four, middle: Four, back: Three) -> Eleven
-    ensures { λ r. ⌜ elevenSays r ≡ mapped figuresOf (both (fourSays front) (both (fourSays middle) (threeSays back))) ⌝ }
+    ensures { λ r. ⌜ Gather front middle back r ⌝ }
 {
     match front {
         Four::Wrong(i) => Eleven::Wrong(i),
@@ -60,12 +54,14 @@ pub fn gather(front: Four, middle: Four, back: Three) -> Eleven
 
 // Fields 1 to 11 and the bytes of field 12 as a record, or the first wrong field.
 pub fn with_serial(eleven: Eleven, s: &[u8]) -> RecordRead
-    requires { ⌜ length (now s) ≡ 10 ⌝ }
-    ensures { λ a. ⌜ a ≡ recordRead (found (recordSays eleven (now (s .entry)))) ⌝ }
+    ensures { λ a. ⌜ WithSerial eleven (now (s .entry)) a ⌝ }
 {
     match eleven {
         Eleven::Wrong(i) => record::refused_record(Refusal::Contents(i)),
         Eleven::Found(figures) => {
+            if s.len() != 10 {
+                return record::refused_record(Refusal::Contents(12));
+            }
             if !codec::is_behind(s, b"S") {
                 return record::refused_record(Refusal::Contents(12));
             }

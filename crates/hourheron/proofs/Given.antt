@@ -3,10 +3,8 @@
 use Prim.Native.Nat.{ℕ}
 use mathlib.Core.List.{List}
 use mathlib.Core.Path.{_≡_, sym, ap, _∙_}
-use lib.ListN.{length}
 use Rattle.codec.specs.Codec.{Codec, filled}
-use Rattle.codec.proofs.Texts.{text-long, filled-whole, filled-ok}
-use Rattle.codec.proofs.Exact.{first-zero, holds}
+use Rattle.codec.proofs.Texts.{filled-whole, filled-ok}
 use Rattle.record.specs.Record.{recordLowest}
 use Rattle.record.specs.declared.Figures.{Figures}
 use Rattle.record.specs.declared.Record.{Record}
@@ -16,19 +14,13 @@ use Rattle.fixed.specs.declared.Fixed.{Fixed}
 use Rattle.fixed.specs.declared.Lens.{Lens}
 use Rattle.fixed.proofs.Exact.{fixed-lowest}
 use Rattle.fixed.proofs.Given.{items-long, filled-items, filled-lowest}
+use Rattle.layout.proofs.Laws.{serial-long}
 use Rattle.hourheron.specs.Host.{withSerial}
 
 -- f is out of range by the same field or item as a, or is a
 pub record StandsFor {A : Type 0} (form : Codec A) (f a : A) : Type 0 where
   pub alike : form .lowest f ≡ form .lowest a
   pub same : form .lowest a ≡ 0 → f ≡ a
-
--- a record that may be sent has a serial of nine bytes
-pub serial-long : (r : Record) → recordLowest r ≡ 0 → length (r .serial) ≡ 9
-unfolding recordLowest
-serial-long r z =
-    let s = first-zero _ _ z in
-    text-long 9 (r .serial) (holds _ 11 (s .1))
 
 nine-lowest : (f : Figures) (s : List ℕ) → recordLowest (withSerial f (filled 9 s)) ≡ recordLowest (withSerial f s)
 unfolding recordLowest

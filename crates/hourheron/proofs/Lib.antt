@@ -1,4 +1,5 @@
 pub mod Given
 pub mod Answers
+pub mod Tells
 pub mod Promises
 pub mod Unique

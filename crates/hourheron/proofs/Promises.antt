@@ -1,56 +1,224 @@
--- What an exported reader promises of the host's memory: accepted contents have their texts' lengths, so they take the bytes that were asked for.
--- Assumes nothing.
-use Prim.Native.Nat.{ℕ}
+-- What a C host may conclude from a call of each entry: demand 2, by what is handed over and left in its memory. Assumes nothing.
+use Prim.Native.Nat.{ℕ, _≤_, _<_}
 use mathlib.Core.Bool.{Bool}
-use mathlib.Core.List.{List}
-use mathlib.Core.Path.{_≡_, sym, ap, _∙_}
-use lib.ListN.{length}
-use Rattle.refusal.specs.Answer.{Answer, accepted}
+use mathlib.Core.List.{List, _++_}
+use mathlib.Core.Logic.{_↔_, Iff·trans, _⊎_, inl, inr}
+use mathlib.Core.Path.{_≡_, refl, sym, ap, _∙_, subst}
+use borrow.Author.Tests.{leb-false, le-leb, lt-leb}
+use lib.Dec.{leb}
+use lib.IntN.{ℤ}
+use lib.ListN.{length, drop}
+use Rattle.laws.proofs.Tests.{told, never}
+use Rattle.refusal.specs.Answer.{Answer, accepted, refused, unless}
+use Rattle.refusal.specs.declared.Refusal.{Refusal}
+use Rattle.refusal.specs.declared.Refusal.the-variants.{Room}
 use Rattle.codec.specs.Codec.{Codec}
-use Rattle.codec.proofs.Exact.{Exact}
-use Rattle.frame.specs.Message.{readOf, thenWrite, thenLeft}
-use Rattle.frame.proofs.Exactly.{reads-only}
+use Rattle.codec.specs.Places.{Place}
+use Rattle.frame.specs.Faithful.{Faithful}
+use Rattle.frame.specs.Message.{readOf, messageOf, roomFor, thenWrite, thenLeft, writeOf}
+use Rattle.frame.specs.Refuses.{ReadWhen, Refuses}
 use Rattle.frame.proofs.Left.{then-same, then-bytes}
-use Rattle.record.specs.Forms.{textForm, packedForm}
-use Rattle.record.proofs.Exact.{text-form-exact, text-lowest, packed-form-exact, packed-lowest}
-use Rattle.record.specs.declared.Record.{Record}
+use Rattle.fixed.specs.Fixed.{fixedLowest}
 use Rattle.fixed.specs.Form.{fixedForm}
 use Rattle.fixed.specs.declared.Fixed.{Fixed}
-use Rattle.fixed.proofs.Exact.{fixed-form-exact, fixed-lowest}
-use Rattle.fixed.proofs.Given.{items-long}
-use Rattle.layout.specs.Layout.{recordBytes, recordWidth, fixedBytes, fixedWidth}
-use Rattle.layout.proofs.Laws.{record-long, fixed-long}
-use Rattle.hourheron.specs.Promises.{RefusedSame, LaysContents, Promised}
-use Rattle.hourheron.proofs.Given.{serial-long}
+use Rattle.units.specs.Units.{Converts, conversion}
+use Rattle.demand2.proofs.Proved.{demand2}
+use Rattle.layout.specs.Promises.{Unpacks}
+use Rattle.layout.proofs.Promises.{promised as laid}
+use Rattle.hourheron.specs.Host.{answerOf, conversionOf, Writes, Lays, askedOf}
+use Rattle.hourheron.specs.Promises.{Reads, Written, Converted, Asked, Promised}
+use Rattle.hourheron.specs.declared.Answer as host
+use Rattle.hourheron.specs.declared.Conversion.{Conversion}
+use Rattle.hourheron.proofs.Tells.{answers, conversions, was-done, was-refused, no-refusal, done-with, refused-with, tells}
 
-module _ {A : Type 0} (form : Codec A) (exact : Exact form) (bytes : A → List ℕ) (width : ℕ) (long : (f : A) → form .lowest f ≡ 0 → length (bytes f) ≡ width) where
-  read-long : (checksum : Bool) (m : List ℕ) (f : A) → readOf form checksum m ≡ accepted f → length (bytes f) ≡ width
-  read-long checksum m f e = long f (reads-only form exact checksum m f e .0)
+-- ---- the readers
 
-  refused-same : RefusedSame form bytes width
-  refused-same checksum m out x = then-same bytes width out (readOf form checksum m) x (read-long checksum m)
+-- what is done was accepted
+then-accepted : {A : Type 0} (width : ℕ) (q : Answer A) (out : List ℕ) (n : ℕ) → thenWrite width q out ≡ accepted n → (a : A) × (q ≡ accepted a)
+unfolding thenWrite
+then-accepted width (accepted a) out n e = (a, refl)
+then-accepted width (refused x) out n e = never (cc)
 
-  lays-contents : LaysContents form bytes width
-  lays-contents checksum m out f n e h =
-      let p = then-bytes bytes width out f n (read-long checksum m f e) (sym (ap (λ (a : Answer A). thenWrite width a out) e) ∙ h) in
-      (p .0, ap (λ (a : Answer A). thenLeft bytes a out) e ∙ p .1)
+-- what is refused was, or is accepted without room
+then-refused : {A : Type 0} (width : ℕ) (q : Answer A) (out : List ℕ) (x : Refusal) → thenWrite width q out ≡ refused x →
+    (q ≡ refused x) ⊎ ((x ≡ Room width) × (length out < width) × ((a : A) × (q ≡ accepted a)))
+unfolding thenWrite roomFor unless
+then-refused width (refused y) out x e = inl (let s : y ≡ x = cc in ap refused s)
+then-refused width (accepted a) out x e =
+    told (leb width (length out))
+    (λ y. never (cc (rw y at e)))
+    (λ n. inr (cc (rw n at e), leb-false width (length out) n, (a, refl)))
 
--- contents in range are as long as they are laid
-text-long : (r : Record) → textForm .lowest r ≡ 0 → length (recordBytes r) ≡ recordWidth
-text-long r z = record-long r (serial-long r (sym (text-lowest r) ∙ z))
+room-enough : (n len : ℕ) → n ≤ len → roomFor n len ≡ accepted n
+unfolding roomFor unless
+room-enough n len h = rw (le-leb n len h)
 
-packed-long : (r : Record) → packedForm .lowest r ≡ 0 → length (recordBytes r) ≡ recordWidth
-packed-long r z = record-long r (serial-long r (sym (packed-lowest r) ∙ z))
+room-short : (n len : ℕ) → len < n → roomFor n len ≡ refused (Room n)
+unfolding roomFor unless
+room-short n len h = rw (lt-leb n len h)
 
-items-laid : (f : Fixed) → fixedForm .lowest f ≡ 0 → length (fixedBytes f) ≡ fixedWidth
-items-laid f z = fixed-long f (items-long f (sym (fixed-lowest f) ∙ z))
+module _ {A : Type 0} (form : Codec A) (rule : A → ℕ) (low : ℕ → Refusal) (plain : ℕ) (places : List Place) (faithful : Faithful form rule low plain)
+    (exact : Refuses form rule low plain places) where
+  module _ (bytes : A → List ℕ) (width : ℕ) (unpack : List ℕ → A) (lies : Unpacks rule bytes width unpack) (checksum : Bool) (m out : List ℕ)
+      (r : host.Answer) (after : List ℕ) (call : Lays bytes width (readOf form checksum m) out r after) where
+    abbrev read : Answer A
+    read = readOf form checksum m
+
+    -- of a message of sendable contents the room decides
+    call-of : (a : A) → rule a ≡ 0 → m ≡ messageOf form checksum a → Lays bytes width (accepted a) out r after
+    call-of a z e = subst (λ (x : Answer A). Lays bytes width x out r after) (faithful .exactly checksum m a .1 (z, e)) call
+
+    done : r .number ≡ 0 → (r .value ≡ width) × ((a : A) × (rule a ≡ 0) × (m ≡ messageOf form checksum a) × (after ≡ bytes a ++ drop width out))
+    done z =
+        let w = was-done answers r (thenWrite width read out) (call .answers) z in
+        let q = then-accepted width read out (w .0) (w .1) in
+        let p = faithful .exactly checksum m (q .0) .0 (q .1) in
+        let l = lies .long (q .0) (p .0) in
+        let b = then-bytes bytes width out (q .0) (w .0) l (ap (λ (x : Answer A). thenWrite width x out) (sym (q .1)) ∙ w .1) in
+        let n = b .0 ∙ l in (
+          ap (λ (x : host.Answer). x .value) (call .answers ∙ ap answerOf (w .1)) ∙ n,
+          (q .0, p .0, p .1, call .leaves ∙ ap (λ (x : Answer A). thenLeft bytes x out) (q .1) ∙ b .1 ∙ ap (λ (k : ℕ). bytes (q .0) ++ drop k out) n),
+        )
+
+    fits : (a : A) → rule a ≡ 0 → width ≤ length out → m ≡ messageOf form checksum a → (r .number ≡ 0) × (after ≡ bytes a ++ drop width out)
+    unfolding thenWrite
+    fits a z h e =
+        let w : thenWrite width (accepted a) out ≡ accepted width = room-enough width (length out) h in
+        let l = call-of a z e in
+        (ap (λ (x : host.Answer). x .number) (l .answers ∙ ap answerOf w), l .leaves ∙ then-bytes bytes width out a width (lies .long a z) w .1)
+
+    -- what is unpacked are the contents of the message
+    only : (a : A) → r .number ≡ 0 → unpack after ≡ a → m ≡ messageOf form checksum a
+    only a z e =
+        let d = done z .1 in
+        d .2 ∙ ap (messageOf form checksum) (sym (lies .back (d .0) (drop width out) (d .1)) ∙ ap unpack (sym (d .3)) ∙ e)
+
+    -- a refusal's case: the message's, or then the room's
+    abbrev Case : Refusal → Type 0
+    Case x =
+        ReadWhen rule (form .print) places plain checksum m x ⊎
+        ((x ≡ Room width) × (length out < width) × ((a : A) × (rule a ≡ 0) × (m ≡ messageOf form checksum a)))
+
+    has-case : (x : Refusal) → thenWrite width read out ≡ refused x → Case x
+    has-case x e = by (then-refused width read out x e) where
+      by : (read ≡ refused x) ⊎ ((x ≡ Room width) × (length out < width) × ((a : A) × (read ≡ accepted a))) → Case x
+      by (inl q) = inl (exact .read-when checksum m x .0 q)
+      by (inr (k, h, (a, q))) = let p = faithful .exactly checksum m a .0 q in inr (k, h, (a, p .0, p .1))
+
+    of-case : (x : Refusal) → Case x → thenWrite width read out ≡ refused x
+    unfolding thenWrite
+    of-case x (inl w) = ap (λ (q : Answer A). thenWrite width q out) (exact .read-when checksum m x .1 w)
+    of-case x (inr (k, h, (a, z, e))) =
+        ap (λ (q : Answer A). thenWrite width q out) (faithful .exactly checksum m a .1 (z, e)) ∙ room-short width (length out) h ∙ ap refused (sym k)
+
+    kept : (r .number ≡ 0 → ⊥) → after ≡ out
+    kept not =
+        let w = was-refused answers r (thenWrite width read out) (call .answers) not in
+        call .leaves ∙ then-same bytes width out read (w .0) (λ a q. lies .long a (faithful .exactly checksum m a .0 q .0)) (w .1)
+
+    reads : Reads form rule plain places bytes width unpack checksum m out r after
+    reads = record {
+      done = done;
+      gives-back = λ a z h. (λ p. only a (p .0) (ap unpack (p .1) ∙ lies .back a (drop width out) z), fits a z h);
+      unpacks = λ a z h. (λ p. only a (p .0) (p .1), λ e. let f = fits a z h e in (f .0, ap unpack (f .1) ∙ lies .back a (drop width out) z));
+      refuses = λ x. Iff·trans (refused-with answers r (thenWrite width read out) (call .answers) x) (has-case x, of-case x);
+      refused-same = kept;
+    }
+
+  -- ---- the writers
+
+  module _ (a : A) (checksum : Bool) (out : List ℕ) (r : host.Answer) (after : List ℕ) (call : Writes form low checksum a out r after) where
+    abbrev write : Answer ℕ
+    write = writeOf form low checksum a out
+
+    message : r .number ≡ 0 → after ≡ messageOf form checksum a ++ drop (r .value) out
+    message z =
+        let w = was-done answers r write (call .answers) z in
+        let n : w .0 ≡ r .value = ap (λ (x : host.Answer). x .value) (sym (call .answers ∙ ap answerOf (w .1))) in
+        call .leaves ∙ faithful .writes-message checksum a out (w .0) (w .1) .1 ∙ ap (λ (k : ℕ). messageOf form checksum a ++ drop k out) n
+
+    writes : Written form rule low plain checksum a out r after
+    writes = record {
+      done = λ n. Iff·trans (done-with answers r write (call .answers) n) (exact .writes-when checksum a out n);
+      message = message;
+      refuses = λ x. Iff·trans (refused-with answers r write (call .answers) x) (exact .write-when checksum a out x);
+      refused-same = λ not.
+          let w = was-refused answers r write (call .answers) not in
+          call .leaves ∙ faithful .refused-same checksum a out (w .0) (w .1);
+    }
+
+-- ---- the conversion
+
+module _ (field : ℕ) (z : ℤ) (unit wanted : ℕ) (r : Conversion) (call : r ≡ conversionOf (conversion field z unit wanted)) where
+  abbrev number : Answer ℤ
+  number = conversion field z unit wanted
+
+  converted : r .number ≡ 0 → Converts unit wanted z (r .value) × (unit ≡ wanted → r .value ≡ z) × (r .field ≡ 0)
+  converted o =
+      let w = was-done conversions r number call o in
+      let is : r ≡ conversionOf (accepted (w .0)) = call ∙ ap conversionOf (w .1) in
+      let v : r .value ≡ w .0 = ap (λ (x : Conversion). x .value) is in (
+        subst (Converts unit wanted z) (sym v) (demand2 .converts field z (w .0) unit wanted (w .1)),
+        λ e. v ∙ demand2 .alike field z (w .0) unit (ap (conversion field z unit) e ∙ w .1),
+        ap (λ (x : Conversion). x .field) is,
+      )
+
+  converts : Converted field z unit wanted r
+  converts =
+      let when = demand2 .units-refuse .convert-when field z unit wanted in
+      record {
+        done = converted;
+        refuses = λ x. Iff·trans (refused-with conversions r number call x) (when x);
+        no-case = λ none. no-refusal conversions r number call (λ x e. none x (when x .0 e));
+        refused-zero = λ not. let w = was-refused conversions r number call not in ap (λ (x : Conversion). x .value) (call ∙ ap conversionOf (w .1));
+      }
+
+-- ---- the owner's part
+
+asked-accepted : {A : Type 0} (part : Answer A → ℕ) (q : Answer A) (n : ℕ) → (askedOf part q ≡ accepted n) ↔ ((a : A) × (q ≡ accepted a) × (n ≡ part (accepted a)))
+unfolding askedOf
+asked-accepted part (accepted a) n = (λ e. (a, refl, cc), λ p. cc)
+asked-accepted part (refused x) n = (λ e. never (cc), λ p. never (cc))
+
+asked-refused : {A : Type 0} (part : Answer A → ℕ) (q : Answer A) (x : Refusal) → (askedOf part q ≡ refused x) ↔ (q ≡ refused x)
+unfolding askedOf
+asked-refused part (accepted a) x = (λ e. never (cc), λ e. never (cc))
+asked-refused part (refused y) x = (λ e. cc, λ e. cc)
+
+module _ (part : Answer Fixed → ℕ) (m : List ℕ) (checksum : Bool) (r : host.Answer) (call : r ≡ answerOf (askedOf part (readOf fixedForm checksum m))) where
+  abbrev fixed : Answer Fixed
+  fixed = readOf fixedForm checksum m
+
+  of-fixed : (n : ℕ) → ((f : Fixed) × (fixed ≡ accepted f) × (n ≡ part (accepted f))) ↔
+      ((f : Fixed) × (fixedLowest f ≡ 0) × (m ≡ messageOf fixedForm checksum f) × (n ≡ part (accepted f)))
+  of-fixed n = (
+    λ p. let q = demand2 .fixed .exactly checksum m (p .0) .0 (p .1) in (p .0, q .0, q .1, p .2),
+    λ p. (p .0, demand2 .fixed .exactly checksum m (p .0) .1 (p .1, p .2), p .3),
+  )
+
+  asks : Asked part m checksum r
+  asks = record {
+    done = λ n. Iff·trans (done-with answers r (askedOf part fixed) call n) (Iff·trans (asked-accepted part fixed n) (of-fixed n));
+    refuses = λ x.
+        Iff·trans (refused-with answers r (askedOf part fixed) call x)
+        (Iff·trans (asked-refused part fixed x) (demand2 .fixed-refuses .read-when checksum m x));
+  }
+
+-- ---- all entries
 
 pub promised : Promised
 promised = record {
-  text-refused = refused-same textForm text-form-exact recordBytes recordWidth text-long;
-  text-lays = lays-contents textForm text-form-exact recordBytes recordWidth text-long;
-  packed-refused = refused-same packedForm packed-form-exact recordBytes recordWidth packed-long;
-  packed-lays = lays-contents packedForm packed-form-exact recordBytes recordWidth packed-long;
-  fixed-refused = refused-same fixedForm fixed-form-exact fixedBytes fixedWidth items-laid;
-  fixed-lays = lays-contents fixedForm fixed-form-exact fixedBytes fixedWidth items-laid;
+  answer = tells answers;
+  conversion = tells conversions;
+  read-text = reads _ _ _ _ _ (demand2 .text) (demand2 .text-refuses) _ _ _ (laid .of-record);
+  read-packed = reads _ _ _ _ _ (demand2 .packed) (demand2 .packed-refuses) _ _ _ (laid .of-record);
+  read-fixed = reads _ _ _ _ _ (demand2 .fixed) (demand2 .fixed-refuses) _ _ _ (laid .of-fixed);
+  write-text = writes _ _ _ _ _ (demand2 .text) (demand2 .text-refuses);
+  write-packed = writes _ _ _ _ _ (demand2 .packed) (demand2 .packed-refuses);
+  write-fixed = writes _ _ _ _ _ (demand2 .fixed) (demand2 .fixed-refuses);
+  convert = converts;
+  checksum = λ s r e. (ap (λ (x : host.Answer). x .number) e, ap (λ (x : host.Answer). x .value) e);
+  owner-start = asks _;
+  owner-len = asks _;
+  collect = λ line byte r after c. (c .answers, c .leaves);
 }

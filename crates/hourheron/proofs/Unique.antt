@@ -4,76 +4,66 @@ use mathlib.Core.Bool.{Bool}
 use mathlib.Core.List.{List}
 use mathlib.Core.Path.{_≡_}
 use lib.IntN.{ℤ}
-use Rattle.laws.specs.Gives.{Gives}
 use Rattle.laws.proofs.OneAnswer.{one-answer, one-outcome}
-use Rattle.refusal.specs.Answer.{Answer, accepted}
-use Rattle.refusal.specs.declared.Refusal.{Refusal}
-use Rattle.refusal.specs.declared.Refusal.the-variants.{Field, Setting}
-use Rattle.codec.specs.Codec.{Codec}
-use Rattle.frame.specs.Message.{readOf}
-use Rattle.record.specs.Forms.{textForm, packedForm}
-use Rattle.fixed.specs.Form.{fixedForm}
-use Rattle.nreader.specs.Reader.{ownerAt, ownerLength}
-use Rattle.units.specs.Units.{conversion}
 use Rattle.line.specs.declared.Line.{Line}
 use Rattle.collector.specs.declared.Collected.{Collected}
-use Rattle.collector.specs.Collect.{lineAfter, collected}
-use Rattle.layout.specs.Layout.{recordBytes, recordWidth, fixedBytes, fixedWidth}
-use Rattle.hourheron.specs.Host.{answerOf, conversionOf, checksumOf, Writes, Lays, askedOf}
-use Rattle.hourheron.specs.declared.Answer as host
+use Rattle.hourheron.specs.Contracts.{HeronConvert, HeronChecksum, HeronWriteText, HeronWritePacked, HeronReadText, HeronReadPacked, HeronWriteFixed, HeronReadFixed, HeronOwnerStart, HeronOwnerLen, HeronCollect}
 use Rattle.hourheron.specs.declared.Conversion.{Conversion}
+use Rattle.hourheron.specs.declared.Answer.{Answer}
 
--- ---- the writers, of any contents
+-- ---- the writers
 
-abbrev pub OneWritten : {A : Type 0} → Codec A → (ℕ → Refusal) → Type 0
-OneWritten {A} form low =
-    (a : A) (checksum : Bool) (out : List ℕ) (r r′ : host.Answer) (after after′ : List ℕ) →
-    Writes form low checksum a out r after → Writes form low checksum a out r′ after′ → (r ≡ r′) × (after ≡ after′)
+pub one-heron-write-text : (focus aperture stop tenth focal hyperfocal near far view : ℕ) (pupil : ℤ) (zoom : ℕ)
+    (serial : List ℕ) (checksum : Bool) (out : List ℕ) {r r′ : Answer} {after after′ : List ℕ} →
+    HeronWriteText focus aperture stop tenth focal hyperfocal near far view pupil zoom serial checksum out r after →
+    HeronWriteText focus aperture stop tenth focal hyperfocal near far view pupil zoom serial checksum out r′ after′ → (r ≡ r′) × (after ≡ after′)
+one-heron-write-text focus aperture stop tenth focal hyperfocal near far view pupil zoom serial checksum out = one-outcome
 
-pub one-heron-write-text : OneWritten textForm Field
-one-heron-write-text a checksum out r r′ after after′ = one-outcome
+pub one-heron-write-packed : (focus aperture stop tenth focal hyperfocal near far view : ℕ) (pupil : ℤ) (zoom : ℕ)
+    (serial : List ℕ) (checksum : Bool) (out : List ℕ) {r r′ : Answer} {after after′ : List ℕ} →
+    HeronWritePacked focus aperture stop tenth focal hyperfocal near far view pupil zoom serial checksum out r after →
+    HeronWritePacked focus aperture stop tenth focal hyperfocal near far view pupil zoom serial checksum out r′ after′ → (r ≡ r′) × (after ≡ after′)
+one-heron-write-packed focus aperture stop tenth focal hyperfocal near far view pupil zoom serial checksum out = one-outcome
 
-pub one-heron-write-packed : OneWritten packedForm Field
-one-heron-write-packed a checksum out r r′ after after′ = one-outcome
+pub one-heron-write-fixed : (serial owner : List ℕ) (kind focal maximum letter transmission : ℕ) (version : List ℕ)
+    (checksum : Bool) (out : List ℕ) {r r′ : Answer} {after after′ : List ℕ} →
+    HeronWriteFixed serial owner kind focal maximum letter transmission version checksum out r after →
+    HeronWriteFixed serial owner kind focal maximum letter transmission version checksum out r′ after′ → (r ≡ r′) × (after ≡ after′)
+one-heron-write-fixed serial owner kind focal maximum letter transmission version checksum out = one-outcome
 
-pub one-heron-write-fixed : OneWritten fixedForm Setting
-one-heron-write-fixed f checksum out r r′ after after′ = one-outcome
+-- ---- the readers
 
--- ---- the readers, of any message
+pub one-heron-read-text : (message : List ℕ) (checksum : Bool) (out : List ℕ) {r r′ : Answer} {after after′ : List ℕ} →
+    HeronReadText message checksum out r after → HeronReadText message checksum out r′ after′ → (r ≡ r′) × (after ≡ after′)
+one-heron-read-text message checksum out = one-outcome
 
-abbrev pub OneRead : {A : Type 0} → Codec A → (A → List ℕ) → ℕ → Type 0
-OneRead form bytes width =
-    (m : List ℕ) (checksum : Bool) (out : List ℕ) (r r′ : host.Answer) (after after′ : List ℕ) →
-    Lays bytes width (readOf form checksum m) out r after → Lays bytes width (readOf form checksum m) out r′ after′ → (r ≡ r′) × (after ≡ after′)
+pub one-heron-read-packed : (message : List ℕ) (checksum : Bool) (out : List ℕ) {r r′ : Answer} {after after′ : List ℕ} →
+    HeronReadPacked message checksum out r after → HeronReadPacked message checksum out r′ after′ → (r ≡ r′) × (after ≡ after′)
+one-heron-read-packed message checksum out = one-outcome
 
-pub one-heron-read-text : OneRead textForm recordBytes recordWidth
-one-heron-read-text m checksum out r r′ after after′ = one-outcome
-
-pub one-heron-read-packed : OneRead packedForm recordBytes recordWidth
-one-heron-read-packed m checksum out r r′ after after′ = one-outcome
-
-pub one-heron-read-fixed : OneRead fixedForm fixedBytes fixedWidth
-one-heron-read-fixed m checksum out r r′ after after′ = one-outcome
+pub one-heron-read-fixed : (message : List ℕ) (checksum : Bool) (out : List ℕ) {r r′ : Answer} {after after′ : List ℕ} →
+    HeronReadFixed message checksum out r after → HeronReadFixed message checksum out r′ after′ → (r ≡ r′) × (after ≡ after′)
+one-heron-read-fixed message checksum out = one-outcome
 
 -- ---- what writes nothing
 
-pub one-heron-owner-start : (m : List ℕ) (checksum : Bool) {r r′ : host.Answer} →
-    r ≡ answerOf (askedOf ownerAt (readOf fixedForm checksum m)) → r′ ≡ answerOf (askedOf ownerAt (readOf fixedForm checksum m)) → r ≡ r′
-one-heron-owner-start m checksum = one-answer
+pub one-heron-owner-start : (message : List ℕ) (checksum : Bool) {r r′ : Answer} →
+    HeronOwnerStart message checksum r → HeronOwnerStart message checksum r′ → r ≡ r′
+one-heron-owner-start message checksum = one-answer
 
-pub one-heron-owner-len : (m : List ℕ) (checksum : Bool) {r r′ : host.Answer} →
-    r ≡ answerOf (askedOf ownerLength (readOf fixedForm checksum m)) → r′ ≡ answerOf (askedOf ownerLength (readOf fixedForm checksum m)) → r ≡ r′
-one-heron-owner-len m checksum = one-answer
+pub one-heron-owner-len : (message : List ℕ) (checksum : Bool) {r r′ : Answer} →
+    HeronOwnerLen message checksum r → HeronOwnerLen message checksum r′ → r ≡ r′
+one-heron-owner-len message checksum = one-answer
 
 pub one-heron-convert : (field : ℕ) (number : ℤ) (unit wanted : ℕ) {r r′ : Conversion} →
-    r ≡ conversionOf (conversion field number unit wanted) → r′ ≡ conversionOf (conversion field number unit wanted) → r ≡ r′
+    HeronConvert field number unit wanted r → HeronConvert field number unit wanted r′ → r ≡ r′
 one-heron-convert field number unit wanted = one-answer
 
-pub one-heron-checksum : (bytes : List ℕ) {r r′ : host.Answer} → r ≡ answerOf (accepted (checksumOf bytes)) → r′ ≡ answerOf (accepted (checksumOf bytes)) → r ≡ r′
+pub one-heron-checksum : (bytes : List ℕ) {r r′ : Answer} → HeronChecksum bytes r → HeronChecksum bytes r′ → r ≡ r′
 one-heron-checksum bytes = one-answer
 
 -- ---- the line collector
 
-pub one-heron-collect : (l : Line) (b : ℕ) {r r′ : Collected} {after after′ : Line} →
-    Gives (collected l b) (lineAfter l b) r after → Gives (collected l b) (lineAfter l b) r′ after′ → (r ≡ r′) × (after ≡ after′)
-one-heron-collect l b = one-outcome
+pub one-heron-collect : (line : Line) (byte : ℕ) {r r′ : Collected} {after after′ : Line} →
+    HeronCollect line byte r after → HeronCollect line byte r′ after′ → (r ≡ r′) × (after ≡ after′)
+one-heron-collect line byte = one-outcome

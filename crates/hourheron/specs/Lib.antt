@@ -1,2 +1,3 @@
 pub mod Host
+pub mod Contracts
 pub mod Promises

@@ -13,17 +13,11 @@ use refusal::Verdict;
 use units::Converted;
 ghost use mathlib.Core.Path.{_≡_};
 ghost use Rattle.refusal.specs.Answer.{accepted, refused};
-ghost use Rattle.refusal.specs.declared.Refusal.the-variants.{Field, Setting};
-ghost use Rattle.frame.specs.Message.{readOf, roomFor};
+ghost use Rattle.frame.specs.Message.{roomFor};
 ghost use Rattle.codec.specs.Codec.{filled};
-ghost use Rattle.record.specs.Forms.{textForm, packedForm};
-ghost use Rattle.fixed.specs.Form.{fixedForm};
-ghost use Rattle.nreader.specs.Reader.{ownerAt, ownerLength};
-ghost use Rattle.laws.specs.Gives.{Gives};
-ghost use Rattle.collector.specs.Collect.{lineAfter, collected};
-ghost use Rattle.units.specs.Units.{conversion};
 ghost use Rattle.layout.specs.Layout.{recordBytes, recordWidth, fixedBytes, fixedWidth};
-ghost use Rattle.hourheron.specs.Host.{answerOf, answerTo, conversionOf, checksumOf, Writes, recordFrom, fixedFrom, withSerial, toldBy, Lays, askedOf};
+ghost use Rattle.hourheron.specs.Host.{answerOf, answerTo, withSerial, toldBy, Lays};
+ghost use Rattle.hourheron.specs.Contracts.{HeronConvert, HeronChecksum, HeronWriteText, HeronWritePacked, HeronReadText, HeronReadPacked, HeronWriteFixed, HeronReadFixed, HeronOwnerStart, HeronOwnerLen, HeronCollect};
 
 // The refusal's number, or 0; and the value that comes with it, or the count.
 #[repr(C)]
@@ -84,7 +78,7 @@ fn answer_room(width: usize, room: usize) -> Answer
 // A number of a field in the wanted unit.
 #[no_mangle]
 pub extern "C" fn heron_convert(field: u32, number: i32, unit: u8, wanted: u8) -> Conversion
-    ensures { λ r. ⌜ r ≡ conversionOf (conversion field number unit wanted) ⌝ }
+    ensures { λ r. ⌜ HeronConvert field number unit wanted r ⌝ }
 {
     match units::convert(field, number, unit, wanted) {
         Converted::Value(value) => Conversion {
@@ -103,7 +97,7 @@ pub extern "C" fn heron_convert(field: u32, number: i32, unit: u8, wanted: u8) -
 // The checksum of some bytes: its first character times 256, and its second.
 #[no_mangle]
 pub extern "C" fn heron_checksum(bytes: &[u8]) -> Answer
-    ensures { λ r. ⌜ r ≡ answerOf (accepted (checksumOf (now (bytes .entry)))) ⌝ }
+    ensures { λ r. ⌜ HeronChecksum (now (bytes .entry)) r ⌝ }
 {
     let sum = frame::sum_of(bytes);
     done(sum.high as usize * 256 + sum.low as usize)
@@ -142,8 +136,8 @@ pub extern "C" fn heron_write_text(
     out: &mut [u8],
 ) -> Answer
     ensures { λ r.
-        let given = recordFrom focus aperture stop tenth focal hyperfocal near far view pupil zoom (now (serial .entry)) in
-        ⌜ Writes textForm Field checksum given (now (out .entry)) r (now (out .exit)) ⌝ }
+        ⌜ HeronWriteText focus aperture stop tenth focal hyperfocal near far view pupil zoom
+        (now (serial .entry)) checksum (now (out .entry)) r (now (out .exit)) ⌝ }
 {
     let figures = Figures {
         focus,
@@ -181,8 +175,8 @@ pub extern "C" fn heron_write_packed(
     out: &mut [u8],
 ) -> Answer
     ensures { λ r.
-        let given = recordFrom focus aperture stop tenth focal hyperfocal near far view pupil zoom (now (serial .entry)) in
-        ⌜ Writes packedForm Field checksum given (now (out .entry)) r (now (out .exit)) ⌝ }
+        ⌜ HeronWritePacked focus aperture stop tenth focal hyperfocal near far view pupil zoom
+        (now (serial .entry)) checksum (now (out .entry)) r (now (out .exit)) ⌝ }
 {
     let figures = Figures {
         focus,
@@ -222,7 +216,7 @@ fn lay_record(read: RecordRead, out: &mut [u8]) -> Answer
 // Reads a text record into the lent memory.
 #[no_mangle]
 pub extern "C" fn heron_read_text(message: &[u8], checksum: bool, out: &mut [u8]) -> Answer
-    ensures { λ r. ⌜ Lays recordBytes recordWidth (readOf textForm checksum (now (message .entry))) (now (out .entry)) r (now (out .exit)) ⌝ }
+    ensures { λ r. ⌜ HeronReadText (now (message .entry)) checksum (now (out .entry)) r (now (out .exit)) ⌝ }
 {
     lay_record(text_reader::read_text(message, checksum), out)
 }
@@ -230,7 +224,7 @@ pub extern "C" fn heron_read_text(message: &[u8], checksum: bool, out: &mut [u8]
 // Reads a packed record into the lent memory.
 #[no_mangle]
 pub extern "C" fn heron_read_packed(message: &[u8], checksum: bool, out: &mut [u8]) -> Answer
-    ensures { λ r. ⌜ Lays recordBytes recordWidth (readOf packedForm checksum (now (message .entry))) (now (out .entry)) r (now (out .exit)) ⌝ }
+    ensures { λ r. ⌜ HeronReadPacked (now (message .entry)) checksum (now (out .entry)) r (now (out .exit)) ⌝ }
 {
     lay_record(packed_reader::read_packed(message, checksum), out)
 }
@@ -252,8 +246,8 @@ pub extern "C" fn heron_write_fixed(
     out: &mut [u8],
 ) -> Answer
     ensures { λ r.
-        let given = fixedFrom (now (serial .entry)) (now (owner .entry)) kind focal maximum letter transmission (now (version .entry)) in
-        ⌜ Writes fixedForm Setting checksum given (now (out .entry)) r (now (out .exit)) ⌝ }
+        ⌜ HeronWriteFixed (now (serial .entry)) (now (owner .entry)) kind focal maximum letter transmission
+        (now (version .entry)) checksum (now (out .entry)) r (now (out .exit)) ⌝ }
 {
     let lens = Lens {
         kind,
@@ -285,7 +279,7 @@ fn lay_fixed(read: FixedRead, out: &mut [u8]) -> Answer
 // Reads an N message into the lent memory.
 #[no_mangle]
 pub extern "C" fn heron_read_fixed(message: &[u8], checksum: bool, out: &mut [u8]) -> Answer
-    ensures { λ r. ⌜ Lays fixedBytes fixedWidth (readOf fixedForm checksum (now (message .entry))) (now (out .entry)) r (now (out .exit)) ⌝ }
+    ensures { λ r. ⌜ HeronReadFixed (now (message .entry)) checksum (now (out .entry)) r (now (out .exit)) ⌝ }
 {
     lay_fixed(nreader::read_fixed(message, checksum), out)
 }
@@ -293,7 +287,7 @@ pub extern "C" fn heron_read_fixed(message: &[u8], checksum: bool, out: &mut [u8
 // Where the owner's part of an N message starts.
 #[no_mangle]
 pub extern "C" fn heron_owner_start(message: &[u8], checksum: bool) -> Answer
-    ensures { λ r. ⌜ r ≡ answerOf (askedOf ownerAt (readOf fixedForm checksum (now (message .entry)))) ⌝ }
+    ensures { λ r. ⌜ HeronOwnerStart (now (message .entry)) checksum r ⌝ }
 {
     let read = nreader::read_fixed(message, checksum);
     let verdict = read.verdict;
@@ -306,7 +300,7 @@ pub extern "C" fn heron_owner_start(message: &[u8], checksum: bool) -> Answer
 // How long the owner's part of an N message is, without its trailing spaces.
 #[no_mangle]
 pub extern "C" fn heron_owner_len(message: &[u8], checksum: bool) -> Answer
-    ensures { λ r. ⌜ r ≡ answerOf (askedOf ownerLength (readOf fixedForm checksum (now (message .entry)))) ⌝ }
+    ensures { λ r. ⌜ HeronOwnerLen (now (message .entry)) checksum r ⌝ }
 {
     let read = nreader::read_fixed(message, checksum);
     let verdict = read.verdict;
@@ -325,7 +319,7 @@ pub extern "C" fn heron_owner_len(message: &[u8], checksum: bool) -> Answer
 // A received byte, to a collector that is updated where it is kept.
 #[no_mangle]
 pub extern "C" fn heron_collect(line: &mut Line, byte: u8) -> Collected
-    ensures { λ r. ⌜ Gives (collected (now (line .entry)) byte) (lineAfter (now (line .entry)) byte) r (now (line .exit)) ⌝ }
+    ensures { λ r. ⌜ HeronCollect (now (line .entry)) byte r (now (line .exit)) ⌝ }
 {
     collector::collect(line, byte)
 }

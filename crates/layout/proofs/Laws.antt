@@ -9,6 +9,9 @@ use lib.ListN.{length, take, drop, getD, set, length-append, length-drop, take-a
 use lib.Seq.{drop-cons}
 use Rattle.laws.specs.Over.{over}
 use Rattle.laws.proofs.OverLaws.{over-fits, over-short, over-next, sets-over}
+use Rattle.codec.proofs.Exact.{first-zero, holds}
+use Rattle.codec.proofs.Texts.{text-long}
+use Rattle.record.specs.Record.{recordLowest}
 use Rattle.record.specs.declared.Record.{Record}
 use Rattle.fixed.specs.declared.Fixed.{Fixed}
 use Rattle.fixed.proofs.Given.{Long}
@@ -53,6 +56,11 @@ over-number d s i h room =
     ∙ sym (ap (λ (t : List ℕ). over d (4 * i) (fourEach t)) (drop-cons s i 0 h ∙ ap (λ (k : ℕ). getD s i 0 ∷ drop k s) (sym (add-one i))))
 
 -- ---- how long the whole is, where the texts have their lengths
+
+-- a record that may be sent has a serial of nine bytes
+pub serial-long : (r : Record) → recordLowest r ≡ 0 → length (r .serial) ≡ 9
+unfolding recordLowest
+serial-long r z = text-long 9 (r .serial) (holds _ 11 (first-zero _ _ z .1))
 
 pub record-long : (r : Record) → length (r .serial) ≡ 9 → length (recordBytes r) ≡ recordWidth
 unfolding numbersOf

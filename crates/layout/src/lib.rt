@@ -7,7 +7,8 @@ ghost use mathlib.Core.Path.{_≡_};
 ghost use Prim.Native.Nat.{_*_, _≤_};
 ghost use lib.ListN.{length};
 ghost use Rattle.laws.specs.Over.{over};
-ghost use Rattle.layout.specs.Layout.{lowestFirst, fourEach, twos, numbersOf, recordBytes, lensBytes, fixedBytes, fixedWidth};
+ghost use Rattle.layout.specs.Layout.{lowestFirst, fourEach, twos, numbersOf, lensBytes, fixedWidth};
+ghost use Rattle.layout.specs.Contracts.{PutRecord, PutFixed};
 
 // How many bytes a record and fixed data take.
 pub const RECORD_WIDTH: usize = 53;
@@ -74,7 +75,7 @@ fn numbers_of(f: Figures) -> [u32; 11]
 
 // Writes a record.
 pub fn put_record(out: &mut [u8], r: Record)
-    ensures { λ _. ⌜ now (out .exit) ≡ over (now (out .entry)) 0 (recordBytes r) ⌝ }
+    ensures { λ _. ⌜ PutRecord (now (out .entry)) r (now (out .exit)) ⌝ }
 {
     if out.len() < RECORD_WIDTH {
         return;
@@ -100,7 +101,7 @@ fn put_lens(out: &mut [u8], f: Fixed)
 
 // Writes fixed data.
 pub fn put_fixed(out: &mut [u8], f: Fixed)
-    ensures { λ _. ⌜ now (out .exit) ≡ over (now (out .entry)) 0 (fixedBytes f) ⌝ }
+    ensures { λ _. ⌜ PutFixed (now (out .entry)) f (now (out .exit)) ⌝ }
 {
     if out.len() < FIXED_WIDTH {
         return;

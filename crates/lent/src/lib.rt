@@ -1,13 +1,9 @@
 // Writing into lent memory at a place. What does not fit is not written, so no caller owes a bound.
-ghost use mathlib.Core.Path.{_≡_};
-ghost use mathlib.Core.List.{[], _∷_};
-ghost use Prim.Native.Nat.{_+_};
-ghost use lib.Dec.{leb};
-ghost use Rattle.laws.specs.Over.{over};
+ghost use Rattle.lent.specs.Contracts.{HasRoom, PutByte, PutPair, PutText};
 
 // Whether n bytes from a place on fit into a memory of len bytes.
 pub fn has_room(len: usize, at: usize, n: usize) -> bool
-    ensures { λ r. ⌜ r ≡ leb (at + n) len ⌝ }
+    ensures { λ r. ⌜ HasRoom len at n r ⌝ }
 {
     if len < n {
         return false;
@@ -17,7 +13,7 @@ pub fn has_room(len: usize, at: usize, n: usize) -> bool
 
 // Writes one byte.
 pub fn put_byte(out: &mut [u8], at: usize, byte: u8)
-    ensures { λ _. ⌜ now (out .exit) ≡ over (now (out .entry)) at (byte ∷ []) ⌝ }
+    ensures { λ _. ⌜ PutByte (now (out .entry)) at byte (now (out .exit)) ⌝ }
 {
     if out.len() <= at {
         return;
@@ -27,7 +23,7 @@ pub fn put_byte(out: &mut [u8], at: usize, byte: u8)
 
 // Writes two bytes.
 pub fn put_pair(out: &mut [u8], at: usize, first: u8, second: u8)
-    ensures { λ _. ⌜ now (out .exit) ≡ over (now (out .entry)) at (first ∷ second ∷ []) ⌝ }
+    ensures { λ _. ⌜ PutPair (now (out .entry)) at first second (now (out .exit)) ⌝ }
 {
     if !has_room(out.len(), at, 2) {
         return;
@@ -38,7 +34,7 @@ pub fn put_pair(out: &mut [u8], at: usize, first: u8, second: u8)
 
 // Writes the bytes of a text.
 pub fn put_text(out: &mut [u8], at: usize, text: &[u8])
-    ensures { λ _. ⌜ now (out .exit) ≡ over (now (out .entry)) at (now (text .entry)) ⌝ }
+    ensures { λ _. ⌜ PutText (now (out .entry)) at (now (text .entry)) (now (out .exit)) ⌝ }
 {
     if !has_room(out.len(), at, text.len()) {
         return;

@@ -1,7 +1,7 @@
 // The line that the port collects byte by byte, and the decision over its bytes: which command it is.
 ghost use mathlib.Core.Path.{_≡_};
-ghost use Rattle.line.specs.Line.{blank, ends, joined, validLine};
-ghost use Rattle.line.specs.Command.{oneByte, afterK, twoBytes, afterKb, filmOf, afterW, threeBytes, commandIn, commandOf};
+ghost use Rattle.line.specs.Command.{oneByte, afterK, twoBytes, afterKb, filmOf, afterW, threeBytes, commandIn};
+ghost use Rattle.line.specs.Contracts.{LineBlank, LineEnds, LineJoined, LineIsValid, LineCommand};
 
 // The bytes that a line keeps.
 pub const LINE_LENGTH: usize = 64;
@@ -144,7 +144,7 @@ fn command_in(line: &[u8]) -> Command
 impl Line {
     // The empty line.
     pub fn blank() -> Line
-        ensures { λ r. ⌜ r ≡ blank ⌝ }
+        ensures { λ r. ⌜ LineBlank r ⌝ }
     {
         Line {
             bytes: [0; LINE_LENGTH],
@@ -155,14 +155,14 @@ impl Line {
 
     // Whether a received byte ends the line: a carriage return does.
     pub fn ends(self, byte: u8) -> bool
-        ensures { λ r. ⌜ r ≡ ends self byte ⌝ }
+        ensures { λ r. ⌜ LineEnds self byte r ⌝ }
     {
         byte == b'\r'
     }
 
     // The line with one byte more, which a full line does not keep.
     pub fn joined(self, byte: u8) -> Line
-        ensures { λ r. ⌜ r ≡ joined self byte ⌝ }
+        ensures { λ r. ⌜ LineJoined self byte r ⌝ }
     {
         let mut line = self;
         let at = self.len;
@@ -177,14 +177,14 @@ impl Line {
 
     // Whether the count is within the buffer; the bytes may be anything.
     pub fn is_valid(self) -> bool
-        ensures { λ r. ⌜ r ≡ validLine self ⌝ }
+        ensures { λ r. ⌜ LineIsValid self r ⌝ }
     {
         self.len <= LINE_LENGTH
     }
 
     // The command that the line is.
     pub fn command(self) -> Command
-        ensures { λ r. ⌜ r ≡ commandOf self ⌝ }
+        ensures { λ r. ⌜ LineCommand self r ⌝ }
     {
         if self.overlong {
             return Command::Unknown;

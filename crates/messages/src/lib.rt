@@ -9,16 +9,14 @@ use state::MESSAGE_LENGTH;
 use state::Message;
 ghost use mathlib.Core.Path.{_≡_};
 ghost use mathlib.Core.Bool.{true};
-ghost use mathlib.Core.List.{[], _∷_};
+ghost use mathlib.Core.List.{_∷_};
 ghost use Prim.Native.Nat.{_+_, _≤_};
 ghost use lib.ListN.{length};
-ghost use Rattle.digits.specs.Digits.{decimal};
 ghost use Rattle.frame.specs.Frame.{endingWidth, framed};
-ghost use Rattle.record.specs.Forms.{textForm, packedForm};
-ghost use Rattle.fixed.specs.Form.{fixedForm};
-ghost use Rattle.units.specs.Measurement.{shown, degrees};
+ghost use Rattle.units.specs.Measurement.{shown};
 ghost use Rattle.state.specs.State.{messageLength, unsent};
 ghost use Rattle.messages.specs.Built.{closedOf};
+ghost use Rattle.messages.specs.Contracts.{LetterMessage, VersionMessage, MakerMessage, TypeMessage, RateMessage, FixedMessage, DegreesMessage, BlurMessage, TextMessage, PackedMessage};
 
 // The first n bytes of a buffer, ended, about to be sent.
 fn closed(bytes: [u8; MESSAGE_LENGTH], n: usize, checksum: bool) -> Message
@@ -36,7 +34,7 @@ fn closed(bytes: [u8; MESSAGE_LENGTH], n: usize, checksum: bool) -> Message
 
 // One byte.
 pub fn letter_message(byte: u8, checksum: bool) -> Message
-    ensures { λ r. ⌜ r ≡ unsent (framed checksum (byte ∷ [])) ⌝ }
+    ensures { λ r. ⌜ LetterMessage byte checksum r ⌝ }
 {
     let mut bytes = [0u8; MESSAGE_LENGTH];
     lent::put_byte(&mut bytes, 0, byte);
@@ -56,28 +54,28 @@ fn named(first: u8, second: u8, text: &[u8], checksum: bool) -> Message
 
 // B, a space and the version.
 pub fn version_message(version: [u8; 4], checksum: bool) -> Message
-    ensures { λ r. ⌜ r ≡ unsent (framed checksum (66 ∷ 32 ∷ version)) ⌝ }
+    ensures { λ r. ⌜ VersionMessage version checksum r ⌝ }
 {
     named(b'B', b' ', &version, checksum)
 }
 
 // K3 and the maker's name.
 pub fn maker_message(maker: [u8; 15], checksum: bool) -> Message
-    ensures { λ r. ⌜ r ≡ unsent (framed checksum (75 ∷ 51 ∷ maker)) ⌝ }
+    ensures { λ r. ⌜ MakerMessage maker checksum r ⌝ }
 {
     named(b'K', b'3', &maker, checksum)
 }
 
 // K4 and the name of the type.
 pub fn type_message(name: [u8; 30], checksum: bool) -> Message
-    ensures { λ r. ⌜ r ≡ unsent (framed checksum (75 ∷ 52 ∷ name)) ⌝ }
+    ensures { λ r. ⌜ TypeMessage name checksum r ⌝ }
 {
     named(b'K', b'4', &name, checksum)
 }
 
 // Kb, the digit of a rate number and !.
 pub fn rate_message(digit: u8, checksum: bool) -> Message
-    ensures { λ r. ⌜ r ≡ unsent (framed checksum (75 ∷ 98 ∷ digit ∷ 33 ∷ [])) ⌝ }
+    ensures { λ r. ⌜ RateMessage digit checksum r ⌝ }
 {
     let text = [digit, b'!'];
     named(b'K', b'b', &text, checksum)
@@ -85,7 +83,7 @@ pub fn rate_message(digit: u8, checksum: bool) -> Message
 
 // The fixed data.
 pub fn fixed_message(fixed: Fixed, checksum: bool) -> Message
-    ensures { λ r. ⌜ r ≡ unsent (framed checksum (fixedForm .print fixed)) ⌝ }
+    ensures { λ r. ⌜ FixedMessage fixed checksum r ⌝ }
 {
     let mut bytes = [0u8; MESSAGE_LENGTH];
     nwriter::put_fixed(&mut bytes, fixed);
@@ -108,7 +106,7 @@ fn shown_of(t: i32) -> u32
 
 // P and two digits.
 pub fn degrees_message(t: i32, checksum: bool) -> Message
-    ensures { λ r. ⌜ r ≡ unsent (framed checksum (80 ∷ degrees t)) ⌝ }
+    ensures { λ r. ⌜ DegreesMessage t checksum r ⌝ }
 {
     let mut bytes = [0u8; MESSAGE_LENGTH];
     codec::put_tagged(&mut bytes, 0, b'P', 2, shown_of(t));
@@ -117,7 +115,7 @@ pub fn degrees_message(t: i32, checksum: bool) -> Message
 
 // A letter, 0.0 and the three digits of a blur circle.
 pub fn blur_message(letter: u8, circle: u16, checksum: bool) -> Message
-    ensures { λ r. ⌜ r ≡ unsent (framed checksum (letter ∷ 48 ∷ 46 ∷ 48 ∷ decimal 3 circle)) ⌝ }
+    ensures { λ r. ⌜ BlurMessage letter circle checksum r ⌝ }
 {
     let head = [letter, b'0', b'.', b'0'];
     let mut bytes = [0u8; MESSAGE_LENGTH];
@@ -128,7 +126,7 @@ pub fn blur_message(letter: u8, circle: u16, checksum: bool) -> Message
 
 // The text record.
 pub fn text_message(r: Record, checksum: bool) -> Message
-    ensures { λ m. ⌜ m ≡ unsent (framed checksum (textForm .print r)) ⌝ }
+    ensures { λ m. ⌜ TextMessage r checksum m ⌝ }
 {
     let mut bytes = [0u8; MESSAGE_LENGTH];
     text_writer::put_text_record(&mut bytes, r);
@@ -137,7 +135,7 @@ pub fn text_message(r: Record, checksum: bool) -> Message
 
 // The packed record.
 pub fn packed_message(r: Record, checksum: bool) -> Message
-    ensures { λ m. ⌜ m ≡ unsent (framed checksum (packedForm .print r)) ⌝ }
+    ensures { λ m. ⌜ PackedMessage r checksum m ⌝ }
 {
     let mut bytes = [0u8; MESSAGE_LENGTH];
     packed_writer::put_packed_record(&mut bytes, r);

@@ -20,7 +20,7 @@ use Rattle.fixed.specs.declared.Fixed.{Fixed}
 use Rattle.fixed.specs.declared.FixedRead.{FixedRead}
 use Rattle.fixed.proofs.Exact.{fixed-form-exact, fixed-form-width, fixed-lowest}
 use Rattle.fixed.proofs.Given.{items-long}
-use Rattle.nreader.specs.Reader.{unspaced, trimmed, OwnersPart}
+use Rattle.nreader.specs.Reader.{unspaced, trimmed, PartBy}
 
 -- a text without its trailing spaces is no longer than the text
 pub unspaced-low : (s : List ℕ) (n : ℕ) → unspaced s n ≤ n
@@ -43,8 +43,8 @@ refused-is x (refused q) r e h =
     ap refused y
 
 -- the part by the answer that was given
-pub part-by : (m : RefT (List ℕ)) {a b : Answer Fixed} {p : RefT (List ℕ)} → a ≡ b → OwnersPart m b p → OwnersPart m a p
-part-by m {p = p} e = subst (λ (x : Answer Fixed). OwnersPart m x p) (sym e)
+pub part-by : (m : RefT (List ℕ)) {a b : Answer Fixed} {p : RefT (List ℕ)} → a ≡ b → PartBy m b p → PartBy m a p
+part-by m {p = p} e = subst (λ (x : Answer Fixed). PartBy m x p) (sym e)
 
 module _ (checksum : Bool) (m : List ℕ) (f : Fixed) (e : readOf fixedForm checksum m ≡ accepted f) where
   pub accepted-long : length m ≡ fixedLength + endingWidth checksum

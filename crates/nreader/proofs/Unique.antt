@@ -5,16 +5,14 @@ use mathlib.Core.List.{List}
 use mathlib.Core.Path.{_≡_}
 use denote.Ref.{RefT}
 use Rattle.laws.proofs.OneAnswer.{one-answer}
-use Rattle.frame.specs.Message.{readOf}
-use Rattle.fixed.specs.Fixed.{fixedRead}
-use Rattle.fixed.specs.Form.{fixedForm}
 use Rattle.fixed.specs.declared.FixedRead.{FixedRead}
-use Rattle.nreader.specs.Reader.{trimmed, PartIs, OwnersPart}
+use Rattle.nreader.specs.Reader.{PartIs}
+use Rattle.nreader.specs.Contracts.{ReadFixed, TrimmedLength, OwnerPart}
 
-pub one-read-fixed : (m : List ℕ) (checksum : Bool) {r r′ : FixedRead} → r ≡ fixedRead (readOf fixedForm checksum m) → r′ ≡ fixedRead (readOf fixedForm checksum m) → r ≡ r′
+pub one-read-fixed : (m : List ℕ) (checksum : Bool) {r r′ : FixedRead} → ReadFixed m checksum r → ReadFixed m checksum r′ → r ≡ r′
 one-read-fixed m checksum = one-answer
 
-pub one-trimmed-length : (s : List ℕ) {r r′ : ℕ} → r ≡ trimmed s → r′ ≡ trimmed s → r ≡ r′
+pub one-trimmed-length : (s : List ℕ) {r r′ : ℕ} → TrimmedLength s r → TrimmedLength s r′ → r ≡ r′
 one-trimmed-length s = one-answer
 
 -- two parts at one place with the same bytes; a reference's ghost name is no machine value, and nothing fixes it
@@ -22,6 +20,5 @@ pub one-part : {m : RefT (List ℕ)} {a n : ℕ} {r r′ : RefT (List ℕ)} → 
 one-part p q = (one-answer (p .place) (q .place), one-answer (p .bytes) (q .bytes))
 
 pub one-owner-part : (m : RefT (List ℕ)) (checksum : Bool) {r r′ : RefT (List ℕ)} →
-    OwnersPart m (readOf fixedForm checksum (m .now)) r → OwnersPart m (readOf fixedForm checksum (m .now)) r′ →
-    (r .ptr ≡ r′ .ptr) × (r .now ≡ r′ .now)
+    OwnerPart m checksum r → OwnerPart m checksum r′ → (r .ptr ≡ r′ .ptr) × (r .now ≡ r′ .now)
 one-owner-part m checksum = one-part

@@ -1,2 +1,3 @@
 pub mod Reader
 pub mod Promises
+pub mod Contracts

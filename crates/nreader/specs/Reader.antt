@@ -60,5 +60,5 @@ pub record PartIs (m : RefT (List ℕ)) (a n : ℕ) (r : RefT (List ℕ)) : Type
   pub bytes : r .now ≡ take n (drop a (m .now))
 
 -- r is the owner's part of m, by the reader's answer
-abbrev pub OwnersPart : RefT (List ℕ) → Answer Fixed → RefT (List ℕ) → Type 0
-OwnersPart m a r = PartIs m (ownerAt a) (ownerLength a) r
+abbrev pub PartBy : RefT (List ℕ) → Answer Fixed → RefT (List ℕ) → Type 0
+PartBy m a r = PartIs m (ownerAt a) (ownerLength a) r

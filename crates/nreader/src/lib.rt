@@ -7,10 +7,11 @@ use refusal::Refusal;
 use refusal::Verdict;
 ghost use mathlib.Core.Path.{_≡_};
 ghost use lib.ListN.{length};
-ghost use Rattle.frame.specs.Message.{found, readOf};
+ghost use Rattle.frame.specs.Message.{found};
 ghost use Rattle.fixed.specs.Fixed.{kindOk, letterOk, fixedRead};
 ghost use Rattle.fixed.specs.Form.{lensItems, fixedLength, fixedForm};
-ghost use Rattle.nreader.specs.Reader.{readLetter, lensSays, itemsSays, trimmed, OwnersPart};
+ghost use Rattle.nreader.specs.Reader.{readLetter, lensSays, itemsSays};
+ghost use Rattle.nreader.specs.Contracts.{ReadFixed, TrimmedLength, OwnerPart};
 
 // What a tag and a letter hold: the letter, or what no writer writes.
 enum Letter {
@@ -118,7 +119,7 @@ fn read_contents(s: &[u8]) -> FixedRead
 
 // Reads an N message: 3, 4, 5 for its frame, then 6 with the first wrong item.
 pub fn read_fixed(m: &[u8], checksum: bool) -> FixedRead
-    ensures { λ r. ⌜ r ≡ fixedRead (readOf fixedForm checksum (now (m .entry))) ⌝ }
+    ensures { λ r. ⌜ ReadFixed (now (m .entry)) checksum r ⌝ }
 {
     match frame::open(m, FIXED_LENGTH, checksum) {
         Verdict::Refused(r) => fixed::refused_fixed(r),
@@ -128,7 +129,7 @@ pub fn read_fixed(m: &[u8], checksum: bool) -> FixedRead
 
 // How long a text is without its trailing spaces.
 pub fn trimmed_length(s: &[u8]) -> usize
-    ensures { λ r. ⌜ r ≡ trimmed (now (s .entry)) ⌝ }
+    ensures { λ r. ⌜ TrimmedLength (now (s .entry)) r ⌝ }
 {
     let mut n = s.len();
     while 0 < n {
@@ -142,7 +143,7 @@ pub fn trimmed_length(s: &[u8]) -> usize
 
 // The owner's name without its trailing spaces, as that part of the message; of a refused message empty, at its start.
 pub fn owner_part<'a>(m: &'a [u8], checksum: bool) -> &'a [u8]
-    ensures { λ r. ⌜ OwnersPart (m .entry) (readOf fixedForm checksum (now (m .entry))) r ⌝ }
+    ensures { λ r. ⌜ OwnerPart (m .entry) checksum r ⌝ }
 {
     let read = read_fixed(m, checksum);
     let verdict = read.verdict;

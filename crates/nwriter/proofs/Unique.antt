@@ -3,19 +3,14 @@ use Prim.Native.Nat.{ℕ}
 use mathlib.Core.Bool.{Bool}
 use mathlib.Core.List.{List}
 use mathlib.Core.Path.{_≡_}
-use Rattle.laws.specs.Over.{over}
 use Rattle.laws.proofs.OneAnswer.{one-answer, one-outcome}
-use Rattle.refusal.specs.declared.Refusal.the-variants.{Setting}
-use Rattle.frame.specs.Message.{WritesMessage}
 use Rattle.frame.specs.declared.Wrote.{Wrote}
-use Rattle.fixed.specs.Form.{fixedForm}
 use Rattle.fixed.specs.declared.Fixed.{Fixed}
+use Rattle.nwriter.specs.Contracts.{PutFixed, WriteFixed}
 
-pub one-put-fixed : (out : List ℕ) (f : Fixed) {after after′ : List ℕ} → after ≡ over out 0 (fixedForm .print f) → after′ ≡ over out 0 (fixedForm .print f) → after ≡ after′
+pub one-put-fixed : (out : List ℕ) (f : Fixed) {after after′ : List ℕ} → PutFixed out f after → PutFixed out f after′ → after ≡ after′
 one-put-fixed out f = one-answer
 
 pub one-write-fixed : (f : Fixed) (checksum : Bool) (out : List ℕ) {w w′ : Wrote} {after after′ : List ℕ} →
-    WritesMessage fixedForm Setting checksum f out w after →
-    WritesMessage fixedForm Setting checksum f out w′ after′ →
-    (w ≡ w′) × (after ≡ after′)
+    WriteFixed f checksum out w after → WriteFixed f checksum out w′ after′ → (w ≡ w′) × (after ≡ after′)
 one-write-fixed f checksum out = one-outcome

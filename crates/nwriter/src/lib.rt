@@ -7,10 +7,9 @@ ghost use mathlib.Core.Path.{_≡_};
 ghost use Prim.Native.Nat.{_≤_};
 ghost use lib.ListN.{length};
 ghost use Rattle.laws.specs.Over.{over};
-ghost use Rattle.refusal.specs.declared.Refusal.the-variants.{Setting};
-ghost use Rattle.frame.specs.Message.{WritesMessage};
-ghost use Rattle.fixed.specs.Form.{fixedForm, fixedLength};
+ghost use Rattle.fixed.specs.Form.{fixedLength};
 ghost use Rattle.nwriter.specs.Parts.{namesText, lensText, versionText};
+ghost use Rattle.nwriter.specs.Contracts.{PutFixed, WriteFixed};
 
 // Writes N, S and the serial, O and the owner: the first 43 bytes.
 fn put_names(out: &mut [u8], f: Fixed)
@@ -50,7 +49,7 @@ fn put_version(out: &mut [u8], f: Fixed)
 
 // Writes the contents of an N message; nothing where they do not fit.
 pub fn put_fixed(out: &mut [u8], f: Fixed)
-    ensures { λ _. ⌜ now (out .exit) ≡ over (now (out .entry)) 0 (fixedForm .print f) ⌝ }
+    ensures { λ _. ⌜ PutFixed (now (out .entry)) f (now (out .exit)) ⌝ }
 {
     if out.len() < FIXED_LENGTH {
         return;
@@ -62,13 +61,13 @@ pub fn put_fixed(out: &mut [u8], f: Fixed)
 
 // Writes an N message: 8 for the lowest item out of range, then 2 with the needed length.
 pub fn write_fixed(f: Fixed, checksum: bool, out: &mut [u8]) -> Wrote
-    ensures { λ w. ⌜ WritesMessage fixedForm Setting checksum f (now (out .entry)) w (now (out .exit)) ⌝ }
+    ensures { λ w. ⌜ WriteFixed f checksum (now (out .entry)) w (now (out .exit)) ⌝ }
 {
     let lowest = fixed::lowest_item(f);
     if lowest != 0 {
         return Wrote::Refused(Refusal::Setting(lowest));
     }
-    let answer = frame::room_for(out.len(), FIXED_LENGTH, checksum);
+    let answer = frame::room_for(out.len(), FIXED_LENGTH as u32, checksum);
     let Wrote::Count(n) = answer else {
         return answer;
     };

@@ -1,20 +1,20 @@
 // The reader of the packed record (command Kd). The form is `packedForm` of the crate record; each group
-// of fields has a function that reads it, and another crate may call it.
+// of fields has a function that reads it, and another crate may call it. Of bytes of another number than
+// they take, the first field is wrong.
 use digits::Field;
 use gather::Four;
 use gather::Three;
 use pupil::Signed;
 use record::PACKED_LENGTH;
 use record::RecordRead;
+use refusal::Refusal;
 use refusal::Verdict;
 ghost use mathlib.Core.Path.{_≡_};
 ghost use lib.ListN.{length};
 ghost use Rattle.digits.specs.Digits.{readGroups};
 ghost use Rattle.codec.specs.Codec.{readTagged};
-ghost use Rattle.frame.specs.Message.{found, readOf};
-ghost use Rattle.record.specs.Record.{topDistance, recordRead};
-ghost use Rattle.record.specs.Forms.{frontPacked, middlePacked, backPacked, packedLength, packedForm};
-ghost use Rattle.gather.specs.Gather.{fourSays, threeSays};
+ghost use Rattle.record.specs.Record.{topDistance};
+ghost use Rattle.packed_reader.specs.Contracts.{ReadFront, ReadMiddle, ReadBack, ReadContents, ReadPacked};
 
 // Reads d and four groups.
 fn read_focus(s: &[u8]) -> Field
@@ -29,9 +29,11 @@ fn read_focus(s: &[u8]) -> Field
 
 // Reads fields 1 to 4.
 pub fn read_front(s: &[u8]) -> Four
-    requires { ⌜ length (now s) ≡ 9 ⌝ }
-    ensures { λ r. ⌜ fourSays r ≡ frontPacked .parse (now (s .entry)) ⌝ }
+    ensures { λ r. ⌜ ReadFront (now (s .entry)) r ⌝ }
 {
+    if s.len() != 9 {
+        return Four::Wrong(1);
+    }
     let Field::Value(focus) = read_focus(&s[0..5]) else {
         return Four::Wrong(1);
     };
@@ -49,9 +51,11 @@ pub fn read_front(s: &[u8]) -> Four
 
 // Reads fields 5 to 8.
 pub fn read_middle(s: &[u8]) -> Four
-    requires { ⌜ length (now s) ≡ 14 ⌝ }
-    ensures { λ r. ⌜ fourSays r ≡ middlePacked .parse (now (s .entry)) ⌝ }
+    ensures { λ r. ⌜ ReadMiddle (now (s .entry)) r ⌝ }
 {
+    if s.len() != 14 {
+        return Four::Wrong(5);
+    }
     let Field::Value(focal) = digits::read_groups(&s[0..2], 1023) else {
         return Four::Wrong(5);
     };
@@ -69,9 +73,11 @@ pub fn read_middle(s: &[u8]) -> Four
 
 // Reads fields 9 to 11.
 pub fn read_back(s: &[u8]) -> Three
-    requires { ⌜ length (now s) ≡ 6 ⌝ }
-    ensures { λ r. ⌜ threeSays r ≡ backPacked .parse (now (s .entry)) ⌝ }
+    ensures { λ r. ⌜ ReadBack (now (s .entry)) r ⌝ }
 {
+    if s.len() != 6 {
+        return Three::Wrong(9);
+    }
     let Field::Value(view) = digits::read_groups(&s[0..2], 4095) else {
         return Three::Wrong(9);
     };
@@ -86,9 +92,11 @@ pub fn read_back(s: &[u8]) -> Three
 
 // Reads the contents: 6 with the first wrong field.
 pub fn read_contents(s: &[u8]) -> RecordRead
-    requires { ⌜ length (now s) ≡ packedLength ⌝ }
-    ensures { λ a. ⌜ a ≡ recordRead (found (packedForm .parse (now (s .entry)))) ⌝ }
+    ensures { λ a. ⌜ ReadContents (now (s .entry)) a ⌝ }
 {
+    if s.len() != PACKED_LENGTH {
+        return record::refused_record(Refusal::Contents(1));
+    }
     let eleven = gather::gather(
         read_front(&s[0..9]),
         read_middle(&s[9..23]),
@@ -99,7 +107,7 @@ pub fn read_contents(s: &[u8]) -> RecordRead
 
 // Reads a message: its length, its end and its checksum, then its contents.
 pub fn read_packed(m: &[u8], checksum: bool) -> RecordRead
-    ensures { λ a. ⌜ a ≡ recordRead (readOf packedForm checksum (now (m .entry))) ⌝ }
+    ensures { λ a. ⌜ ReadPacked (now (m .entry)) checksum a ⌝ }
 {
     match frame::open(m, PACKED_LENGTH, checksum) {
         Verdict::Refused(r) => record::refused_record(r),

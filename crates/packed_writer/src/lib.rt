@@ -9,9 +9,8 @@ ghost use mathlib.Core.Path.{_≡_};
 ghost use Prim.Native.Nat.{_≤_};
 ghost use lib.ListN.{length};
 ghost use Rattle.laws.specs.Over.{over};
-ghost use Rattle.refusal.specs.declared.Refusal.the-variants.{Field};
-ghost use Rattle.frame.specs.Message.{WritesMessage};
-ghost use Rattle.record.specs.Forms.{frontPacked, middlePacked, backPacked, packedForm, packedLength, frontOf, middleOf, backOf};
+ghost use Rattle.record.specs.Forms.{frontPacked, middlePacked, backPacked, packedLength, frontOf, middleOf, backOf};
+ghost use Rattle.packed_writer.specs.Contracts.{PutPackedRecord, WritePacked};
 
 // Writes d and four groups, two groups, the shared pair.
 fn put_front(out: &mut [u8], f: Figures)
@@ -48,7 +47,7 @@ fn put_back(out: &mut [u8], f: Figures)
 
 // Writes a record's contents; nothing where they do not fit.
 pub fn put_packed_record(out: &mut [u8], r: Record)
-    ensures { λ _. ⌜ now (out .exit) ≡ over (now (out .entry)) 0 (packedForm .print r) ⌝ }
+    ensures { λ _. ⌜ PutPackedRecord (now (out .entry)) r (now (out .exit)) ⌝ }
 {
     if out.len() < PACKED_LENGTH {
         return;
@@ -63,13 +62,13 @@ pub fn put_packed_record(out: &mut [u8], r: Record)
 
 // Writes a whole message: the lowest field out of range is refused first, then too little room.
 pub fn write_packed(r: Record, checksum: bool, out: &mut [u8]) -> Wrote
-    ensures { λ w. ⌜ WritesMessage packedForm Field checksum r (now (out .entry)) w (now (out .exit)) ⌝ }
+    ensures { λ w. ⌜ WritePacked r checksum (now (out .entry)) w (now (out .exit)) ⌝ }
 {
     let lowest = record::lowest_field(r);
     if lowest != 0 {
         return Wrote::Refused(Refusal::Field(lowest));
     }
-    let answer = frame::room_for(out.len(), PACKED_LENGTH, checksum);
+    let answer = frame::room_for(out.len(), PACKED_LENGTH as u32, checksum);
     let Wrote::Count(n) = answer else {
         return answer;
     };

@@ -13,7 +13,8 @@ use Rattle.digits.specs.declared.Field.{Field}
 use Rattle.digits.specs.declared.Field.the-variants.{Value, Wrong}
 use Rattle.digits.proofs.Laws.{length-digits}
 use Rattle.codec.specs.Codec.{passed, failing, both, chained, fieldSays, number, tagged, _⊗_}
-use Rattle.codec.proofs.Exact.{Exact, Codes, holds, fine, first-zero, zero-first, passed-is, number-exact, tagged-exact, ⊗-exact, through-exact}
+use Rattle.codec.proofs.Exact.{Exact, Codes, holds, fine, first-zero, zero-first, passed-is}
+use Rattle.codec.proofs.Blames.{Alone, number-alone, tagged-alone, ⊗-alone, through-alone}
 use Rattle.codec.proofs.Fields.{tagged-number}
 use Rattle.pointed.specs.Pointed.{point, pointedText, pointed, joined, readPointed}
 
@@ -53,11 +54,16 @@ codes i w top = record {
       (ap (λ (m : ℕ). leb m top) (sym f) ∙ q .0, ap₂ (λ (a b : ℕ). (a, b)) (omega arith) (omega arith));
 }
 
-pub pointed-exact : (i w top : ℕ) → w ≤ widest → top / 10 < 10 ^ w → Exact (pointed (suc i) w top)
+-- one field, whatever of it is wrong
+pub pointed-alone : (i w top : ℕ) → w ≤ widest → top / 10 < 10 ^ w → Alone (suc i) (pointed (suc i) w top)
 unfolding pointed
-pointed-exact i w top short low =
-    through-exact i _ _ _ _ (codes i w top)
-    (⊗-exact _ _ (number-exact i 10 48 w (top / 10) (omega arith) short low) (tagged-exact point (suc i) _ (number-exact i 10 48 1 9 (omega arith) (omega arith) (omega arith))))
+pointed-alone i w top short low =
+    through-alone i (λ n. leb n top) _ _ _ _ (codes i w top) 0 (le-leb 0 top (omega arith))
+    (⊗-alone (suc i) _ _ (number-alone i 10 48 w (top / 10) (omega arith) short low)
+    (tagged-alone point (suc i) _ (number-alone i 10 48 1 9 (omega arith) (omega arith) (omega arith))))
+
+pub pointed-exact : (i w top : ℕ) → w ≤ widest → top / 10 < 10 ^ w → Exact (pointed (suc i) w top)
+pointed-exact i w top short low = pointed-alone i w top short low .exact
 
 -- ---- what the code's reader says
 

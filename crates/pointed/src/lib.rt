@@ -1,12 +1,10 @@
 // A number in tenths as text: digits, a point and one digit (027.3 for 273).
 use digits::Field;
-ghost use mathlib.Core.Path.{_≡_};
-ghost use Rattle.laws.specs.Over.{over};
-ghost use Rattle.pointed.specs.Pointed.{pointedText, readPointed};
+ghost use Rattle.pointed.specs.Contracts.{PutPointed, ReadPointed};
 
 // Writes the whole part as width digits, the point, and the tenths.
 pub fn put_pointed(out: &mut [u8], at: usize, width: usize, n: u32)
-    ensures { λ _. ⌜ now (out .exit) ≡ over (now (out .entry)) at (pointedText width n) ⌝ }
+    ensures { λ _. ⌜ PutPointed (now (out .entry)) at width n (now (out .exit)) ⌝ }
 {
     if out.len() < 2 {
         return;
@@ -20,7 +18,7 @@ pub fn put_pointed(out: &mut [u8], at: usize, width: usize, n: u32)
 
 // Reads the whole of s as a number in tenths that is at most top.
 pub fn read_pointed(s: &[u8], top: u16) -> Field
-    ensures { λ r. ⌜ r ≡ readPointed top (now (s .entry)) ⌝ }
+    ensures { λ r. ⌜ ReadPointed (now (s .entry)) top r ⌝ }
 {
     if s.len() < 2 {
         return Field::Wrong;

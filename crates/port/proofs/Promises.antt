@@ -1,7 +1,8 @@
 -- A refusal changes no state, and a valid port stays valid: entry by entry. Assumes nothing.
 use Prim.Native.Nat.{ℕ}
 use mathlib.Core.Bool.{Bool, true, false, _&&_, _||_, cond}
-use mathlib.Core.Path.{_≡_, refl, ap, subst}
+use mathlib.Core.Logic.{⊎-elim}
+use mathlib.Core.Path.{_≡_, refl, sym, ap, subst, _∙_}
 use lib.Dec.{eqb}
 use Rattle.laws.proofs.Tests.{and-right, and-both, cond-no, told, by, never}
 use Rattle.refusal.specs.declared.Refusal.{Refusal}
@@ -23,9 +24,10 @@ use Rattle.port.specs.declared.Port.{Port}
 use Rattle.port.specs.declared.Slotted.{Slotted}
 use Rattle.port.specs.declared.Received.{Received}
 use Rattle.port.specs.declared.Handed.{Handed}
+use Rattle.port.specs.declared.Started.{Started}
 use Rattle.port.specs.declared.Sent.the-variants as sent
-use Rattle.port.specs.Port.{validPort, slotOf, takenPort, takenOf, receiveOf, handed, measuredPort, measureOf, unitOf, started, startOf}
-use Rattle.port.specs.Promises.{RefusedSame, KeptValid}
+use Rattle.port.specs.Port.{validPort, slotOf, takenPort, takenOf, receiveOf, handed, measuredPort, measureOf, unitOf, started, startVerdict, startedBy, startOf}
+use Rattle.port.specs.Promises.{LeavesNew, StartUnit, RefusedSame, KeptValid}
 use Rattle.port.proofs.Valid.{source-valid, message-valid, line-valid, made-valid, slot-fine}
 
 -- what holds of the new port where it is accepted, and of the old one refused, holds of what a verdict hands back
@@ -37,7 +39,7 @@ by-handed P (Refused r) new old f g = g r
 
 -- ---- refusals
 
-refused : (p : Port) → validPort p ≡ false → slotOf p ≡ record { sent = sent.Refused refusal.State; port = p }
+pub refused : (p : Port) → validPort p ≡ false → slotOf p ≡ record { sent = sent.Refused refusal.State; port = p }
 unfolding slotOf
 refused p n = cond-no _ _ n
 
@@ -83,9 +85,21 @@ measure-same : (p : Port) (m : Measurement) (r : Refusal) → measureOf p m .ver
 unfolding measureOf
 measure-same p m r = by (Kept p r) (validPort p) _ _ (λ v. handed-same (measurementVerdict m) (measuredPort p m) p r) (λ n e. refl)
 
-start-same : (old : Port) (s : Settings) (m : Measurement) (r : Refusal) → startOf old s m .verdict ≡ Refused r → startOf old s m .port ≡ old
+-- what holds of the new port and an empty line where a start is accepted, and of the old ones refused, holds of what its verdict hands back
+by-started : (P : Started → Type 0) (v : Verdict) (new old : Port) (l : Line) →
+    (v ≡ Done → P (record { verdict = Done; port = new; line = blank })) → ((r : Refusal) → v ≡ Refused r → P (record { verdict = Refused r; port = old; line = l })) →
+    P (startedBy v new old l)
+unfolding handed
+by-started P Done new old l f g = f refl
+by-started P (Refused r) new old l f g = g r refl
+
+start-same : (old : Port) (l : Line) (s : Settings) (m : Measurement) (r : Refusal) → startOf old l s m .verdict ≡ Refused r →
+    (startOf old l s m .port ≡ old) × (startOf old l s m .line ≡ l)
 unfolding startOf
-start-same old s m r = by (Kept old r) (eqb (settingsLowest s) 0) _ _ (λ v. handed-same (measurementVerdict m) (started s m) old r) (λ n e. refl)
+start-same old l s m r =
+    by-started (λ (x : Started). x .verdict ≡ Refused r → (x .port ≡ old) × (x .line ≡ l)) (startVerdict s m) (started s m) old l
+    (λ d e. never (cc))
+    (λ x y e. (refl, refl))
 
 pub refused-same : RefusedSame
 refused-same = record {
@@ -111,21 +125,39 @@ started-valid s m a b =
     refl
     blank-valid
 
--- an accepted start hands back the started port, which is valid
-record Starts (s : Settings) (m : Measurement) (p : Port) : Type 0 where
-  same : p ≡ started s m
-  valid : validPort p ≡ true
-
-starts : (old : Port) (s : Settings) (m : Measurement) → startOf old s m .verdict ≡ Done → Starts s m (startOf old s m .port)
+-- an accepted start leaves all new
+pub leaves-new : LeavesNew
 unfolding startOf
-starts old s m =
-    let P : Handed → Type 0 = λ x. x .verdict ≡ Done → Starts s m (x .port) in
-    by P (eqb (settingsLowest s) 0) _ _
-    (λ y. by-handed P (measurementVerdict m) (started s m) old (λ d e. record { same = refl; valid = started-valid s m y d }) (λ r e. never (cc)))
-    (λ n e. never (cc))
+leaves-new old l s m =
+    by-started (λ (x : Started). x .verdict ≡ Done → (x .port ≡ started s m) × (x .line ≡ blank)) (startVerdict s m) (started s m) old l
+    (λ d e. (refl, refl))
+    (λ r y e. never (cc))
 
-pub start-is : (old : Port) (s : Settings) (m : Measurement) → startOf old s m .verdict ≡ Done → startOf old s m .port ≡ started s m
-start-is old s m e = starts old s m e .same
+by-letter : (l : ℕ) {a u : ℕ} → l ≡ a → unitOf a ≡ u → unitOf l ≡ u
+by-letter l e f = ap unitOf e ∙ f
+
+pub start-unit : StartUnit
+unfolding unitOf
+start-unit = record {
+  imperial = λ s m. ⊎-elim (λ e. by-letter _ e refl) (λ e. by-letter _ e refl);
+  metric = λ s m. ⊎-elim (λ e. by-letter _ e refl) (λ e. by-letter _ e refl);
+}
+
+pub start-verdict : (old : Port) (l : Line) (s : Settings) (m : Measurement) → startOf old l s m .verdict ≡ startVerdict s m
+unfolding startOf
+start-verdict old l s m = by-started (λ (x : Started). x .verdict ≡ startVerdict s m) (startVerdict s m) (started s m) old l (λ d. sym d) (λ r y. sym y)
+
+start-fine : (s : Settings) (m : Measurement) → startVerdict s m ≡ Done → (eqb (settingsLowest s) 0 ≡ true) × (measurementVerdict m ≡ Done)
+unfolding startVerdict
+start-fine s m =
+    by (λ (v : Verdict). v ≡ Done → (eqb (settingsLowest s) 0 ≡ true) × (measurementVerdict m ≡ Done)) (eqb (settingsLowest s) 0) _ _
+    (λ y d. (y, d))
+    (λ n d. never (cc))
+
+start-valid : (old : Port) (l : Line) (s : Settings) (m : Measurement) → startOf old l s m .verdict ≡ Done → validPort (startOf old l s m .port) ≡ true
+start-valid old l s m e =
+    let f = start-fine s m (sym (start-verdict old l s m) ∙ e) in
+    subst (λ (p : Port). validPort p ≡ true) (sym (leaves-new old l s m e .0)) (started-valid s m (f .0) (f .1))
 
 slot-valid : (p : Port) → validPort p ≡ true → validPort (slotOf p .port) ≡ true
 slot-valid p v = slot-fine p v .valid
@@ -165,4 +197,4 @@ measure-valid p m v =
     by P (validPort p) _ _ (λ y. by-handed P (measurementVerdict m) (measuredPort p m) p (measured-fits p m v) (λ r. v)) (λ n. v)
 
 pub kept-valid : KeptValid
-kept-valid = record { start = λ old s m e. starts old s m e .valid; slot = slot-valid; receive = receive-valid; line = kept-line; measure = measure-valid }
+kept-valid = record { start = start-valid; slot = slot-valid; receive = receive-valid; line = kept-line; measure = measure-valid }

@@ -6,32 +6,35 @@ use Rattle.laws.proofs.OneAnswer.{one-answer}
 use Rattle.fixed.specs.declared.Settings.{Settings}
 use Rattle.units.specs.declared.Measurement.{Measurement}
 use Rattle.line.specs.declared.Line.{Line}
+use Rattle.port.specs.Contracts.{SentUpTo, Choose, PortUnstarted, PortIsValid, PortStart, PortReceive, PortSlot, PortMeasure}
 use Rattle.port.specs.declared.Port.{Port}
 use Rattle.port.specs.declared.Slotted.{Slotted}
 use Rattle.port.specs.declared.Received.{Received}
 use Rattle.port.specs.declared.Handed.{Handed}
-use Rattle.port.specs.Port.{validPort, sentUpTo, slotOf, receiveOf, measureOf, startOf, unstarted}
+use Rattle.port.specs.declared.Started.{Started}
 
-pub one-unstarted : {p p′ : Port} → p ≡ unstarted → p′ ≡ unstarted → p ≡ p′
+pub one-unstarted : {r r′ : Port} → PortUnstarted r → PortUnstarted r′ → r ≡ r′
 one-unstarted = one-answer
 
-pub one-is-valid : (p : Port) {r r′ : Bool} → r ≡ validPort p → r′ ≡ validPort p → r ≡ r′
-one-is-valid p = one-answer
+pub one-is-valid : (self : Port) {r r′ : Bool} → PortIsValid self r → PortIsValid self r′ → r ≡ r′
+one-is-valid self = one-answer
 
-pub one-start : (old : Port) (s : Settings) (m : Measurement) {r r′ : Handed} → r ≡ startOf old s m → r′ ≡ startOf old s m → r ≡ r′
-one-start old s m = one-answer
+pub one-start : (old : Port) (line : Line) (settings : Settings) (measurement : Measurement) {r r′ : Started} →
+    PortStart old line settings measurement r → PortStart old line settings measurement r′ → r ≡ r′
+one-start old line settings measurement = one-answer
 
-pub one-receive : (p : Port) (l : Line) (b : ℕ) {r r′ : Received} → r ≡ receiveOf p l b → r′ ≡ receiveOf p l b → r ≡ r′
-one-receive p l b = one-answer
+pub one-receive : (self : Port) (line : Line) (byte : ℕ) {r r′ : Received} → PortReceive self line byte r → PortReceive self line byte r′ → r ≡ r′
+one-receive self line byte = one-answer
 
-pub one-slot : (p : Port) {r r′ : Slotted} → r ≡ slotOf p → r′ ≡ slotOf p → r ≡ r′
-one-slot p = one-answer
+pub one-slot : (self : Port) {r r′ : Slotted} → PortSlot self r → PortSlot self r′ → r ≡ r′
+one-slot self = one-answer
 
-pub one-advance : (p : Port) {r r′ : Slotted} → r ≡ slotOf p → r′ ≡ slotOf p → r ≡ r′
-one-advance p = one-answer
-
-pub one-sent-up-to : (p : Port) (at : ℕ) {r r′ : Port} → r ≡ sentUpTo p at → r′ ≡ sentUpTo p at → r ≡ r′
+pub one-sent-up-to : (p : Port) (at : ℕ) {r r′ : Port} → SentUpTo p at r → SentUpTo p at r′ → r ≡ r′
 one-sent-up-to p at = one-answer
 
-pub one-measure : (p : Port) (m : Measurement) {r r′ : Handed} → r ≡ measureOf p m → r′ ≡ measureOf p m → r ≡ r′
-one-measure p m = one-answer
+pub one-choose : (p : Port) {r r′ : Slotted} → Choose p r → Choose p r′ → r ≡ r′
+one-choose p = one-answer
+
+pub one-measure : (self : Port) (measurement : Measurement) {r r′ : Handed} →
+    PortMeasure self measurement r → PortMeasure self measurement r′ → r ≡ r′
+one-measure self measurement = one-answer

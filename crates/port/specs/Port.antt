@@ -28,6 +28,7 @@ use Rattle.port.specs.declared.Sent.the-variants as sent
 use Rattle.port.specs.declared.Slotted.{Slotted}
 use Rattle.port.specs.declared.Received.{Received}
 use Rattle.port.specs.declared.Handed.{Handed}
+use Rattle.port.specs.declared.Started.{Started}
 
 -- 16 covers the source, the message under way and the line that waits
 unfoldable pub validPort : Port → Bool
@@ -167,8 +168,17 @@ unstarted =
     (record { unit = 0; figures = noFigures; temperature = pos 0 })
 
 -- 8 with the lowest item, then 1 with the lowest field; never 16
-unfoldable pub startOf : Port → Settings → Measurement → Handed
-startOf old s m =
-    cond (eqb (settingsLowest s) 0)
-    (handed (measurementVerdict m) (started s m) old)
-    (record { verdict = Refused (refusal.Setting (settingsLowest s)); port = old })
+unfoldable pub startVerdict : Settings → Measurement → Verdict
+startVerdict s m = cond (eqb (settingsLowest s) 0) (measurementVerdict m) (Refused (refusal.Setting (settingsLowest s)))
+
+-- the line that a verdict on a start leaves: an empty one, or the old one
+abbrev pub lineBy : Verdict → Line → Line
+lineBy Done line = blank
+lineBy (Refused r) line = line
+
+-- what a verdict on a start hands back: the new port and an empty line, or the old ones
+abbrev pub startedBy : Verdict → Port → Port → Line → Started
+startedBy v new old line = record { verdict = handed v new old .verdict; port = handed v new old .port; line = lineBy v line }
+
+unfoldable pub startOf : Port → Line → Settings → Measurement → Started
+startOf old line s m = startedBy (startVerdict s m) (started s m) old line

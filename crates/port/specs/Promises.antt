@@ -1,17 +1,45 @@
--- What the port's entries promise beside their exact answers: statements only. A refusal changes no state; a valid port stays valid.
+-- What the port's entries promise beside their exact answers: statements only. A refusal is given in its case and in no other,
+-- and changes no state; a valid port stays valid.
 use Prim.Native.Nat.{ℕ}
-use mathlib.Core.Bool.{true}
+use mathlib.Core.Bool.{true, false, _&&_}
+use mathlib.Core.Logic.{_↔_, _⊎_, _≢_}
 use mathlib.Core.Path.{_≡_}
 use Rattle.refusal.specs.declared.Refusal.{Refusal}
 use Rattle.refusal.specs.declared.Refusal.the-variants as refusal
 use Rattle.refusal.specs.declared.Verdict.the-variants.{Done, Refused}
+use Rattle.fixed.specs.Fixed.{settingsLowest}
 use Rattle.fixed.specs.declared.Settings.{Settings}
+use Rattle.units.specs.Measurement.{measurementVerdict}
 use Rattle.units.specs.declared.Measurement.{Measurement}
 use Rattle.line.specs.declared.Line.{Line}
-use Rattle.line.specs.Line.{blank, validLine}
+use Rattle.line.specs.Line.{blank, ends, validLine}
 use Rattle.port.specs.declared.Port.{Port}
 use Rattle.port.specs.declared.Sent.the-variants as sent
-use Rattle.port.specs.Port.{validPort, slotOf, receiveOf, measureOf, startOf}
+use Rattle.port.specs.Port.{validPort, slotOf, receiveOf, measureOf, started, startOf}
+
+-- "A start leaves `<` LF CR to be sent, an empty line, no command waiting": the whole port is new
+abbrev pub LeavesNew : Type 0
+LeavesNew = (old : Port) (l : Line) (s : Settings) (m : Measurement) → startOf old l s m .verdict ≡ Done →
+    (startOf old l s m .port ≡ started s m) × (startOf old l s m .line ≡ blank)
+
+-- "unit by the start-up letter (I, B imperial; M, b metric)"
+pub record StartUnit : Type 0 where
+  pub imperial : (s : Settings) (m : Measurement) → (s .fixed .letter ≡ 73) ⊎ (s .fixed .letter ≡ 66) → started s m .source .modes .unit ≡ 73
+  pub metric : (s : Settings) (m : Measurement) → (s .fixed .letter ≡ 77) ⊎ (s .fixed .letter ≡ 98) → started s m .source .modes .unit ≡ 77
+
+-- the cases of a received byte: 16; else 7, at the carriage return of a line that comes while a command waits
+abbrev pub ReceiveCase : Port → Line → ℕ → Refusal → Type 0
+ReceiveCase p l b r =
+    ((validPort p && validLine l ≡ false) × (r ≡ refusal.State))
+    ⊎ ((validPort p && validLine l ≡ true) × (ends l b ≡ true) × (p .waiting .some ≡ true) × (r ≡ refusal.Dropped))
+
+-- of a measurement: 16; else 1, with its field
+abbrev pub MeasureCase : Port → Measurement → Refusal → Type 0
+MeasureCase p m r = ((validPort p ≡ false) × (r ≡ refusal.State)) ⊎ ((validPort p ≡ true) × (measurementVerdict m ≡ Refused r))
+
+-- of a start: 8 with the lowest item; else 1, with its field
+abbrev pub StartCase : Settings → Measurement → Refusal → Type 0
+StartCase s m r = ((settingsLowest s ≢ 0) × (r ≡ refusal.Setting (settingsLowest s))) ⊎ ((settingsLowest s ≡ 0) × (measurementVerdict m ≡ Refused r))
 
 -- "Bad settings, measurements .. change no state"; "a command refused with 7 leaves its line empty and all else as it was"
 pub record RefusedSame : Type 0 where
@@ -20,11 +48,20 @@ pub record RefusedSame : Type 0 where
   pub receive-16 : (p : Port) (l : Line) (b : ℕ) → receiveOf p l b .verdict ≡ Refused refusal.State → receiveOf p l b .line ≡ l
   pub receive-7 : (p : Port) (l : Line) (b : ℕ) → receiveOf p l b .verdict ≡ Refused refusal.Dropped → receiveOf p l b .line ≡ blank
   pub measure : (p : Port) (m : Measurement) (r : Refusal) → measureOf p m .verdict ≡ Refused r → measureOf p m .port ≡ p
-  pub start : (old : Port) (s : Settings) (m : Measurement) (r : Refusal) → startOf old s m .verdict ≡ Refused r → startOf old s m .port ≡ old
+  pub start : (old : Port) (l : Line) (s : Settings) (m : Measurement) (r : Refusal) → startOf old l s m .verdict ≡ Refused r →
+      (startOf old l s m .port ≡ old) × (startOf old l s m .line ≡ l)
+
+-- "No number is given outside its case; where no case holds, the entry does its work. 16 comes before all."
+pub record ByCase : Type 0 where
+  pub slot : (p : Port) (r : Refusal) → (slotOf p .sent ≡ sent.Refused r) ↔ ((validPort p ≡ false) × (r ≡ refusal.State))
+  pub receive : (p : Port) (l : Line) (b : ℕ) (r : Refusal) → (receiveOf p l b .verdict ≡ Refused r) ↔ ReceiveCase p l b r
+  pub measure : (p : Port) (m : Measurement) (r : Refusal) → (measureOf p m .verdict ≡ Refused r) ↔ MeasureCase p m r
+  -- "A start checks 8, then 1, never 16"
+  pub start : (old : Port) (l : Line) (s : Settings) (m : Measurement) (r : Refusal) → (startOf old l s m .verdict ≡ Refused r) ↔ StartCase s m r
 
 -- a start and every entry keep a valid port valid, and a valid line
 pub record KeptValid : Type 0 where
-  pub start : (old : Port) (s : Settings) (m : Measurement) → startOf old s m .verdict ≡ Done → validPort (startOf old s m .port) ≡ true
+  pub start : (old : Port) (l : Line) (s : Settings) (m : Measurement) → startOf old l s m .verdict ≡ Done → validPort (startOf old l s m .port) ≡ true
   pub slot : (p : Port) → validPort p ≡ true → validPort (slotOf p .port) ≡ true
   pub receive : (p : Port) (l : Line) (b : ℕ) → validPort p ≡ true → validPort (receiveOf p l b .port) ≡ true
   pub line : (p : Port) (l : Line) (b : ℕ) → validLine l ≡ true → validLine (receiveOf p l b .line) ≡ true

@@ -14,10 +14,10 @@ use state::State;
 use state::Waiting;
 use units::Measurement;
 ghost use mathlib.Core.Path.{_≡_};
-ghost use mathlib.Core.Bool.{true};
 ghost use Prim.Native.Nat.{_<_};
-ghost use Rattle.state.specs.State.{messageLength, validSource};
-ghost use Rattle.port.specs.Port.{validPort, sentUpTo, sendFrom, begunWith, beginsRecord, restOf, actOf, chooseOf, slotOf, takenOf, receiveOf, handed, measureOf, unitOf, started, unstarted, startOf, nobody, isReply, replyLast};
+ghost use Rattle.state.specs.State.{messageLength};
+ghost use Rattle.port.specs.Port.{sendFrom, begunWith, beginsRecord, restOf, actOf, takenOf, handed, unitOf, started, startVerdict, lineBy, nobody, isReply, replyLast};
+ghost use Rattle.port.specs.Contracts.{SentUpTo, Choose, PortUnstarted, PortIsValid, PortStart, PortReceive, PortSlot, PortMeasure};
 
 pub struct Port {
     pub source: Source,
@@ -44,15 +44,22 @@ pub struct Received {
     pub line: Line,
 }
 
-// What a start and a new measurement hand back.
+// What a new measurement hands back.
 pub struct Handed {
     pub verdict: Verdict,
     pub port: Port,
 }
 
+// What a start hands back: the line too, empty where it is accepted.
+pub struct Started {
+    pub verdict: Verdict,
+    pub port: Port,
+    pub line: Line,
+}
+
 // The port once its message has been sent up to a place: the last byte moves the rate.
 pub fn sent_up_to(p: Port, at: usize) -> Port
-    ensures { λ r. ⌜ r ≡ sentUpTo p at ⌝ }
+    ensures { λ r. ⌜ SentUpTo p at r ⌝ }
 {
     let next_rate = p.source.modes.next_rate;
     let mut after = p;
@@ -91,7 +98,6 @@ fn begin(source: Source, message: Message, last: Last, waiting: Waiting) -> Slot
 
 // Rules 1 and 3: a record starts.
 fn begin_record(p: Port) -> Slotted
-    requires { ⌜ validSource (p .source) ≡ true ⌝ }
     ensures { λ r. ⌜ r ≡ beginsRecord p ⌝ }
 {
     let source = p.source;
@@ -102,7 +108,6 @@ fn begin_record(p: Port) -> Slotted
 
 // Rules 3 and 4: a record, where continuous sending is on; else the slot is idle.
 fn rest(p: Port) -> Slotted
-    requires { ⌜ validSource (p .source) ≡ true ⌝ }
     ensures { λ r. ⌜ r ≡ restOf p ⌝ }
 {
     let source = p.source;
@@ -137,7 +142,6 @@ fn reply_last(counts: bool) -> Last
 
 // Rule 2: the command that waits is acted on, which frees its place; its reply starts, if it has one.
 fn act(p: Port) -> Slotted
-    requires { ⌜ validSource (p .source) ≡ true ⌝ }
     ensures { λ r. ⌜ r ≡ actOf p ⌝ }
 {
     let source = p.source;
@@ -171,10 +175,9 @@ fn is_reply(last: Last) -> bool
     }
 }
 
-// Rules 1 to 4, where no message is under way.
-fn choose(p: Port) -> Slotted
-    requires { ⌜ validSource (p .source) ≡ true ⌝ }
-    ensures { λ r. ⌜ r ≡ chooseOf p ⌝ }
+// Rules 1 to 4, where no message is under way: what a slot then does. Whoever calls it has tested with 16.
+pub fn choose(p: Port) -> Slotted
+    ensures { λ r. ⌜ Choose p r ⌝ }
 {
     let source = p.source;
     let last = p.last;
@@ -186,19 +189,6 @@ fn choose(p: Port) -> Slotted
         return act(p);
     }
     rest(p)
-}
-
-// A slot of a valid port: the message under way sends its next byte, else rules 1 to 4.
-pub fn advance(p: Port) -> Slotted
-    requires { ⌜ validPort p ≡ true ⌝ }
-    ensures { λ r. ⌜ r ≡ slotOf p ⌝ }
-{
-    let message = p.message;
-    let at = message.at;
-    if at < message.len {
-        return send_from(p, at);
-    }
-    choose(p)
 }
 
 // A carriage return: the line is taken where no command waits, else dropped.
@@ -249,6 +239,17 @@ fn unit_of(letter: u8) -> u8
     b'M'
 }
 
+// What is wrong with a start: 8 with the lowest item, then 1 with the lowest field.
+fn check_start(settings: Settings, measurement: Measurement) -> Verdict
+    ensures { λ r. ⌜ r ≡ startVerdict settings measurement ⌝ }
+{
+    let lowest = fixed::lowest_setting(settings);
+    if lowest != 0 {
+        return Verdict::Refused(Refusal::Setting(lowest));
+    }
+    units::check_measurement(measurement)
+}
+
 // < LF CR to be sent, no command waiting, ready, all modes off, film 00, rate number 6.
 fn started_with(settings: Settings, measurement: Measurement) -> Port
     ensures { λ r. ⌜ r ≡ started settings measurement ⌝ }
@@ -277,10 +278,20 @@ fn started_with(settings: Settings, measurement: Measurement) -> Port
     }
 }
 
+// The line that a verdict on a start leaves: an empty one, or the old one.
+fn line_by(verdict: Verdict, line: Line) -> Line
+    ensures { λ r. ⌜ r ≡ lineBy verdict line ⌝ }
+{
+    match verdict {
+        Verdict::Done => Line::blank(),
+        Verdict::Refused(_) => line,
+    }
+}
+
 impl Port {
     // The port before its first start. It is no valid state: every entry but a start refuses it.
     pub fn unstarted() -> Port
-        ensures { λ r. ⌜ r ≡ unstarted ⌝ }
+        ensures { λ r. ⌜ PortUnstarted r ⌝ }
     {
         let fixed = Fixed {
             serial: [0; 9],
@@ -321,7 +332,7 @@ impl Port {
 
     // Whether a handed-in state is one of ours (16): the source, the message under way, the line that waits.
     pub fn is_valid(self) -> bool
-        ensures { λ r. ⌜ r ≡ validPort self ⌝ }
+        ensures { λ r. ⌜ PortIsValid self r ⌝ }
     {
         let message = self.message;
         let waiting = self.waiting;
@@ -333,24 +344,24 @@ impl Port {
         state::valid_source(source)
     }
 
-    // A start: 8 with the lowest item, then 1 with the lowest field; a refused one hands the old port back.
-    pub fn start(old: Port, settings: Settings, measurement: Measurement) -> Handed
-        ensures { λ r. ⌜ r ≡ startOf old settings measurement ⌝ }
+    // A start: 8 with the lowest item, then 1 with the lowest field; refused, it hands the old port and line back.
+    pub fn start(old: Port, line: Line, settings: Settings, measurement: Measurement) -> Started
+        ensures { λ r. ⌜ PortStart old line settings measurement r ⌝ }
     {
-        let lowest = fixed::lowest_setting(settings);
-        if lowest != 0 {
-            return Handed {
-                verdict: Verdict::Refused(Refusal::Setting(lowest)),
-                port: old,
-            };
+        let verdict = check_start(settings, measurement);
+        let handed = handed_by(verdict, started_with(settings, measurement), old);
+        let answer = handed.verdict;
+        let port = handed.port;
+        Started {
+            verdict: answer,
+            port,
+            line: line_by(verdict, line),
         }
-        let verdict = units::check_measurement(measurement);
-        handed_by(verdict, started_with(settings, measurement), old)
     }
 
     // A received byte: 16, then 7 at the carriage return of a line that is dropped.
     pub fn receive(self, line: Line, byte: u8) -> Received
-        ensures { λ r. ⌜ r ≡ receiveOf self line byte ⌝ }
+        ensures { λ r. ⌜ PortReceive self line byte r ⌝ }
     {
         if !(self.is_valid() & line.is_valid()) {
             return Received {
@@ -371,7 +382,7 @@ impl Port {
 
     // A sending slot: one byte, or idle.
     pub fn slot(self) -> Slotted
-        ensures { λ r. ⌜ r ≡ slotOf self ⌝ }
+        ensures { λ r. ⌜ PortSlot self r ⌝ }
     {
         if !self.is_valid() {
             return Slotted {
@@ -379,19 +390,19 @@ impl Port {
                 port: self,
             };
         }
-        // A byte under way leaves from here: a call of `advance` copies the port, and so does an answer that is returned unnamed.
+        // The answers have names: one that is returned unnamed copies the port.
         let at = self.message.at;
         if at < self.message.len {
             let sent = send_from(self, at);
             return sent;
         }
-        let chosen = advance(self);
+        let chosen = choose(self);
         chosen
     }
 
     // A new measurement: 16, then 1 with the lowest field.
     pub fn measure(self, measurement: Measurement) -> Handed
-        ensures { λ r. ⌜ r ≡ measureOf self measurement ⌝ }
+        ensures { λ r. ⌜ PortMeasure self measurement r ⌝ }
     {
         if !self.is_valid() {
             return Handed {

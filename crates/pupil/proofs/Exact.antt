@@ -15,7 +15,8 @@ use Rattle.digits.specs.Digits.{readDecimal, readGroups}
 use Rattle.digits.specs.declared.Field.{Field}
 use Rattle.digits.specs.declared.Field.the-variants.{Value, Wrong}
 use Rattle.codec.specs.Codec.{got, wrong, passed, failing, both, chained, fieldSays, number, letter, _⊗_}
-use Rattle.codec.proofs.Exact.{Exact, Codes, holds, fine, first-zero, zero-first, passed-is, number-exact, letter-exact, tagged-exact, ⊗-exact, through-exact}
+use Rattle.codec.proofs.Exact.{Exact, Codes, holds, fine, first-zero, zero-first, passed-is}
+use Rattle.codec.proofs.Blames.{Alone, number-alone, letter-alone, tagged-alone, ⊗-alone, through-alone}
 use Rattle.pupil.specs.Pupil.{pupilOk, sentSo, pupilOf, signByte, isSign, pupilText, pupilCode, pupilPacked, signedField, signedIn, readPupilText, codeIn, readPupilPacked, pupilSays}
 use Rattle.pupil.specs.declared.Signed.the-variants as signed
 
@@ -76,11 +77,16 @@ text-codes = record {
       (t .ok, ap₂ (λ (x y : ℕ). (x, y)) (sign-byte z (p .0) (holds (isSign (p .0)) 9 (f .0)) (t .sign)) (t .size-is));
 }
 
-pub text-exact : Exact pupilText
+-- one field, whatever of it is wrong
+pub text-alone : Alone 10 pupilText
 unfolding pupilText
-text-exact =
-    tagged-exact 69 10 _
-    (through-exact 9 pupilOk _ _ _ text-codes (⊗-exact (letter 10 isSign) (number 10 10 48 3 999) (letter-exact 9 isSign) (number-exact 9 10 48 3 999 (omega arith) (omega arith) (omega arith))))
+text-alone =
+    tagged-alone 69 10 _
+    (through-alone 9 pupilOk _ _ _ _ text-codes (pos 0) refl
+    (⊗-alone 10 _ _ (letter-alone 9 isSign 43 refl) (number-alone 9 10 48 3 999 (omega arith) (omega arith) (omega arith))))
+
+pub text-exact : Exact pupilText
+text-exact = text-alone .exact
 
 -- ---- packed
 
@@ -112,9 +118,12 @@ packed-codes = record {
       (t .ok, code-back z k (leb-true k 4095 (holds (leb k 4095) 9 l)) (t .sign) (t .size-is));
 }
 
-pub packed-exact : Exact pupilPacked
+pub packed-alone : Alone 10 pupilPacked
 unfolding pupilPacked
-packed-exact = through-exact 9 pupilOk _ _ _ packed-codes (number-exact 9 64 64 2 4095 (omega arith) (omega arith) (omega arith))
+packed-alone = through-alone 9 pupilOk _ _ _ _ packed-codes (pos 0) refl (number-alone 9 64 64 2 4095 (omega arith) (omega arith) (omega arith))
+
+pub packed-exact : Exact pupilPacked
+packed-exact = packed-alone .exact
 
 pub text-width : pupilText .width ≡ 5
 unfolding pupilText

@@ -1,1 +1,2 @@
 pub mod Pupil
+pub mod Contracts

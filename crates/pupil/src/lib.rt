@@ -2,8 +2,8 @@
 // ten-bit magnitude in two groups). Zero is written with plus; minus zero is refused.
 use digits::Field;
 ghost use mathlib.Core.Path.{_≡_};
-ghost use Rattle.laws.specs.Over.{over};
-ghost use Rattle.pupil.specs.Pupil.{signByte, isMarked, signedField, pupilCode, pupilText, pupilPacked, readPupilText, readPupilPacked};
+ghost use Rattle.pupil.specs.Pupil.{signByte, isMarked, signedField, pupilCode};
+ghost use Rattle.pupil.specs.Contracts.{PutPupilText, PutPupilPacked, ReadPupilText, ReadPupilPacked};
 
 // What the bytes of the field hold: a number, or what no writer writes.
 pub enum Signed {
@@ -43,7 +43,7 @@ fn pupil_code(e: i32) -> u32
 
 // Writes E, the sign and three digits.
 pub fn put_pupil_text(out: &mut [u8], at: usize, e: i32)
-    ensures { λ _. ⌜ now (out .exit) ≡ over (now (out .entry)) at (pupilText .print e) ⌝ }
+    ensures { λ _. ⌜ PutPupilText (now (out .entry)) at e (now (out .exit)) ⌝ }
 {
     if !lent::has_room(out.len(), at, 5) {
         return;
@@ -54,7 +54,7 @@ pub fn put_pupil_text(out: &mut [u8], at: usize, e: i32)
 
 // Writes the two groups.
 pub fn put_pupil_packed(out: &mut [u8], at: usize, e: i32)
-    ensures { λ _. ⌜ now (out .exit) ≡ over (now (out .entry)) at (pupilPacked .print e) ⌝ }
+    ensures { λ _. ⌜ PutPupilPacked (now (out .entry)) at e (now (out .exit)) ⌝ }
 {
     digits::put_groups(out, at, 2, pupil_code(e));
 }
@@ -68,7 +68,7 @@ fn is_marked(tag: u8, sign: u8) -> bool
 
 // Reads E, the sign and three digits.
 pub fn read_pupil_text(s: &[u8]) -> Signed
-    ensures { λ r. ⌜ r ≡ readPupilText (now (s .entry)) ⌝ }
+    ensures { λ r. ⌜ ReadPupilText (now (s .entry)) r ⌝ }
 {
     if s.len() != 5 {
         return Signed::Wrong;
@@ -84,7 +84,7 @@ pub fn read_pupil_text(s: &[u8]) -> Signed
 
 // Reads the two groups.
 pub fn read_pupil_packed(s: &[u8]) -> Signed
-    ensures { λ r. ⌜ r ≡ readPupilPacked (now (s .entry)) ⌝ }
+    ensures { λ r. ⌜ ReadPupilPacked (now (s .entry)) r ⌝ }
 {
     if s.len() != 2 {
         return Signed::Wrong;

@@ -1,82 +1,93 @@
--- Both forms are exact, and both send exactly the records that the one rule allows. Assumes nothing.
+-- Both forms are exact, blame the first wrong field where document 01 has it stand, and send exactly the records that the one rule allows.
+-- Assumes nothing.
 use Prim.Native.Nat.{ℕ, suc, _<_, _≤_, _^_}
+use mathlib.Core.List.{[], _∷_, _++_}
 use mathlib.Core.Path.{_≡_, refl}
 use native.Mathlib.Omega.{arith}
 use Rattle.digits.specs.Digits.{widest}
 use Rattle.codec.specs.Codec.{number}
-use Rattle.codec.proofs.Exact.{Exact, number-exact, text-exact, tagged-exact, ⊗-exact, iso-exact}
+use Rattle.codec.specs.Places.{endToEnd, further}
+use Rattle.codec.proofs.Exact.{Exact}
+use Rattle.codec.proofs.Blames.{Alone, Blames, digits-alone, number-alone, text-alone, tagged-alone, alone-blames, ⊗-blames, iso-blames}
 use Rattle.pointed.specs.Pointed.{pointed}
-use Rattle.pointed.proofs.Exact.{pointed-exact}
+use Rattle.pointed.proofs.Exact.{pointed-alone}
 use Rattle.stop.specs.Stop.{stop, pair}
-use Rattle.stop.proofs.Exact.{stop-exact, pair-exact}
+use Rattle.stop.specs.Places.{pairPlaces}
+use Rattle.stop.proofs.Blames.{stop-alone, pair-blames}
 use Rattle.pupil.specs.Pupil.{pupilText, pupilPacked}
-use Rattle.pupil.proofs.Exact.{text-exact as pupil-text-exact, packed-exact as pupil-packed-exact}
+use Rattle.pupil.proofs.Exact.{text-alone as pupil-text, packed-alone as pupil-packed}
 use Rattle.record.specs.Record.{topDistance, frontLowest, middleLowest, backLowest, figuresLowest, recordLowest}
 use Rattle.record.specs.Forms.{frontText, middleText, backText, frontPacked, middlePacked, backPacked, serial, recordOf, partsOf, textLength, packedLength, textForm, packedForm}
+use Rattle.record.specs.Places.{textPlaces, packedPlaces}
 use Rattle.record.specs.declared.Record.{Record}
 
--- a number of the two bases, as wide as its range asks
-decimal-exact : (i w top : ℕ) → w ≤ widest → top < 10 ^ w → Exact (number (suc i) 10 48 w top)
-decimal-exact i w top h k = number-exact i 10 48 w top (omega arith) h k
+-- field i as w groups
+groups-alone : (i w top : ℕ) → w ≤ widest → top < 64 ^ w → Alone (suc i) (number (suc i) 64 64 w top)
+groups-alone i w top h k = number-alone i 64 64 w top (omega arith) h k
 
-groups-exact : (i w top : ℕ) → w ≤ widest → top < 64 ^ w → Exact (number (suc i) 64 64 w top)
-groups-exact i w top h k = number-exact i 64 64 w top (omega arith) h k
+front-text : Blames frontText 0 (endToEnd 0 (8 ∷ 5 ∷ 4 ∷ 2 ∷ []))
+unfolding frontText stop
+front-text =
+    ⊗-blames _ _ 0 _ _ (alone-blames _ 0 (digits-alone 68 0 7 topDistance (omega arith) (omega arith)))
+    (⊗-blames _ _ 1 _ _ (alone-blames _ 1 (digits-alone 84 1 4 4095 (omega arith) (omega arith)))
+    (⊗-blames _ _ 2 _ _ (alone-blames _ 2 (tagged-alone 116 3 _ stop-alone))
+    (alone-blames _ 3 (digits-alone 43 3 1 9 (omega arith) (omega arith)))))
 
-front-text-exact : Exact frontText
-unfolding frontText
-front-text-exact =
-    ⊗-exact _ _ (tagged-exact 68 1 _ (decimal-exact 0 7 topDistance (omega arith) (omega arith)))
-    (⊗-exact _ _ (tagged-exact 84 2 _ (decimal-exact 1 4 4095 (omega arith) (omega arith)))
-    (⊗-exact _ _ (tagged-exact 116 3 _ stop-exact) (tagged-exact 43 4 _ (decimal-exact 3 1 9 (omega arith) (omega arith)))))
-
-middle-text-exact : Exact middleText
+middle-text : Blames middleText 4 (endToEnd 0 (5 ∷ 8 ∷ 8 ∷ 8 ∷ []))
 unfolding middleText
-middle-text-exact =
-    ⊗-exact _ _ (tagged-exact 90 5 _ (decimal-exact 4 4 1023 (omega arith) (omega arith)))
-    (⊗-exact _ _ (tagged-exact 72 6 _ (decimal-exact 5 7 topDistance (omega arith) (omega arith)))
-    (⊗-exact _ _ (tagged-exact 78 7 _ (decimal-exact 6 7 topDistance (omega arith) (omega arith)))
-    (tagged-exact 70 8 _ (decimal-exact 7 7 topDistance (omega arith) (omega arith)))))
+middle-text =
+    ⊗-blames _ _ 4 _ _ (alone-blames _ 4 (digits-alone 90 4 4 1023 (omega arith) (omega arith)))
+    (⊗-blames _ _ 5 _ _ (alone-blames _ 5 (digits-alone 72 5 7 topDistance (omega arith) (omega arith)))
+    (⊗-blames _ _ 6 _ _ (alone-blames _ 6 (digits-alone 78 6 7 topDistance (omega arith) (omega arith)))
+    (alone-blames _ 7 (digits-alone 70 7 7 topDistance (omega arith) (omega arith)))))
 
-back-text-exact : Exact backText
-unfolding backText
-back-text-exact =
-    ⊗-exact _ _ (tagged-exact 86 9 _ (pointed-exact 8 3 4095 (omega arith) (omega arith)))
-    (⊗-exact _ _ pupil-text-exact (tagged-exact 122 11 _ (decimal-exact 10 4 1000 (omega arith) (omega arith))))
+back-text : Blames backText 8 (endToEnd 0 (6 ∷ 5 ∷ 5 ∷ []))
+unfolding backText pointed pupilText
+back-text =
+    ⊗-blames _ _ 8 _ _ (alone-blames _ 8 (tagged-alone 86 9 _ (pointed-alone 8 3 4095 (omega arith) (omega arith))))
+    (⊗-blames _ _ 9 _ _ (alone-blames _ 9 pupil-text) (alone-blames _ 10 (digits-alone 122 10 4 1000 (omega arith) (omega arith))))
 
-front-packed-exact : Exact frontPacked
+front-packed : Blames frontPacked 0 (endToEnd 0 (5 ∷ 2 ∷ []) ++ further 7 pairPlaces)
 unfolding frontPacked
-front-packed-exact =
-    ⊗-exact _ _ (tagged-exact 100 1 _ (groups-exact 0 4 topDistance (omega arith) (omega arith)))
-    (⊗-exact _ _ (groups-exact 1 2 4095 (omega arith) (omega arith)) pair-exact)
+front-packed =
+    ⊗-blames _ _ 0 _ _ (alone-blames _ 0 (tagged-alone 100 1 _ (groups-alone 0 4 topDistance (omega arith) (omega arith))))
+    (⊗-blames _ _ 1 _ _ (alone-blames _ 1 (groups-alone 1 2 4095 (omega arith) (omega arith))) pair-blames)
 
-middle-packed-exact : Exact middlePacked
+middle-packed : Blames middlePacked 4 (endToEnd 0 (2 ∷ 4 ∷ 4 ∷ 4 ∷ []))
 unfolding middlePacked
-middle-packed-exact =
-    ⊗-exact _ _ (groups-exact 4 2 1023 (omega arith) (omega arith))
-    (⊗-exact _ _ (groups-exact 5 4 topDistance (omega arith) (omega arith))
-    (⊗-exact _ _ (groups-exact 6 4 topDistance (omega arith) (omega arith)) (groups-exact 7 4 topDistance (omega arith) (omega arith))))
+middle-packed =
+    ⊗-blames _ _ 4 _ _ (alone-blames _ 4 (groups-alone 4 2 1023 (omega arith) (omega arith)))
+    (⊗-blames _ _ 5 _ _ (alone-blames _ 5 (groups-alone 5 4 topDistance (omega arith) (omega arith)))
+    (⊗-blames _ _ 6 _ _ (alone-blames _ 6 (groups-alone 6 4 topDistance (omega arith) (omega arith)))
+    (alone-blames _ 7 (groups-alone 7 4 topDistance (omega arith) (omega arith)))))
 
-back-packed-exact : Exact backPacked
-unfolding backPacked
-back-packed-exact =
-    ⊗-exact _ _ (groups-exact 8 2 4095 (omega arith) (omega arith))
-    (⊗-exact _ _ pupil-packed-exact (groups-exact 10 2 1000 (omega arith) (omega arith)))
+back-packed : Blames backPacked 8 (endToEnd 0 (2 ∷ 2 ∷ 2 ∷ []))
+unfolding backPacked pupilPacked
+back-packed =
+    ⊗-blames _ _ 8 _ _ (alone-blames _ 8 (groups-alone 8 2 4095 (omega arith) (omega arith)))
+    (⊗-blames _ _ 9 _ _ (alone-blames _ 9 pupil-packed) (alone-blames _ 10 (groups-alone 10 2 1000 (omega arith) (omega arith))))
 
-serial-exact : Exact serial
+serial-blames : Blames serial 11 (endToEnd 0 (10 ∷ []))
 unfolding serial
-serial-exact = tagged-exact 83 12 _ (text-exact 11 9)
+serial-blames = alone-blames _ 11 (tagged-alone 83 12 _ (text-alone 11 9))
+
+pub text-form-blames : Blames textForm 0 textPlaces
+unfolding textForm textPlaces frontText middleText backText stop pointed pupilText
+text-form-blames =
+    iso-blames recordOf partsOf _ (λ p. refl) (λ r. refl) 0 _
+    (⊗-blames _ _ 0 _ _ (⊗-blames _ _ 0 _ _ front-text (⊗-blames _ _ 4 _ _ middle-text back-text)) serial-blames)
+
+pub packed-form-blames : Blames packedForm 0 packedPlaces
+unfolding packedForm packedPlaces frontPacked middlePacked backPacked pair pupilPacked
+packed-form-blames =
+    iso-blames recordOf partsOf _ (λ p. refl) (λ r. refl) 0 _
+    (⊗-blames _ _ 0 _ _ (⊗-blames _ _ 0 _ _ front-packed (⊗-blames _ _ 4 _ _ middle-packed back-packed)) serial-blames)
 
 pub text-form-exact : Exact textForm
-unfolding textForm
-text-form-exact =
-    iso-exact recordOf partsOf _ (λ p. refl) (λ r. refl)
-    (⊗-exact _ _ (⊗-exact _ _ front-text-exact (⊗-exact _ _ middle-text-exact back-text-exact)) serial-exact)
+text-form-exact = text-form-blames .exact
 
 pub packed-form-exact : Exact packedForm
-unfolding packedForm
-packed-form-exact =
-    iso-exact recordOf partsOf _ (λ p. refl) (λ r. refl)
-    (⊗-exact _ _ (⊗-exact _ _ front-packed-exact (⊗-exact _ _ middle-packed-exact back-packed-exact)) serial-exact)
+packed-form-exact = packed-form-blames .exact
 
 -- one rule for both forms
 pub text-lowest : (r : Record) → textForm .lowest r ≡ recordLowest r

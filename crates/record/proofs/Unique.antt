@@ -2,21 +2,20 @@
 use Prim.Native.Nat.{ℕ}
 use mathlib.Core.Path.{_≡_}
 use Rattle.laws.proofs.OneAnswer.{one-answer}
-use Rattle.refusal.specs.Answer.{accepted, refused}
 use Rattle.refusal.specs.declared.Refusal.{Refusal}
-use Rattle.record.specs.Record.{figuresLowest, recordLowest, recordRead}
+use Rattle.record.specs.Contracts.{AcceptedRecord, RefusedRecord, LowestFigure, LowestField}
 use Rattle.record.specs.declared.Figures.{Figures}
 use Rattle.record.specs.declared.Record.{Record}
 use Rattle.record.specs.declared.RecordRead.{RecordRead}
 
-pub one-lowest-figure : (f : Figures) (top most : ℕ) {i i′ : ℕ} → i ≡ figuresLowest top most f → i′ ≡ figuresLowest top most f → i ≡ i′
+pub one-lowest-figure : (f : Figures) (top most : ℕ) {r r′ : ℕ} → LowestFigure f top most r → LowestFigure f top most r′ → r ≡ r′
 one-lowest-figure f top most = one-answer
 
-pub one-lowest-field : (r : Record) {i i′ : ℕ} → i ≡ recordLowest r → i′ ≡ recordLowest r → i ≡ i′
+pub one-lowest-field : (r : Record) {i i′ : ℕ} → LowestField r i → LowestField r i′ → i ≡ i′
 one-lowest-field r = one-answer
 
-pub one-accepted-record : (r : Record) {a a′ : RecordRead} → a ≡ recordRead (accepted r) → a′ ≡ recordRead (accepted r) → a ≡ a′
+pub one-accepted-record : (r : Record) {a a′ : RecordRead} → AcceptedRecord r a → AcceptedRecord r a′ → a ≡ a′
 one-accepted-record r = one-answer
 
-pub one-refused-record : (r : Refusal) {a a′ : RecordRead} → a ≡ recordRead (refused r) → a′ ≡ recordRead (refused r) → a ≡ a′
+pub one-refused-record : (r : Refusal) {a a′ : RecordRead} → RefusedRecord r a → RefusedRecord r a′ → a ≡ a′
 one-refused-record r = one-answer

@@ -3,8 +3,8 @@
 use refusal::Refusal;
 use refusal::Verdict;
 ghost use mathlib.Core.Path.{_≡_};
-ghost use Rattle.refusal.specs.Answer.{accepted, refused};
-ghost use Rattle.record.specs.Record.{frontLowest, middleLowest, backLowest, figuresLowest, recordLowest, recordRead};
+ghost use Rattle.record.specs.Record.{frontLowest, middleLowest, backLowest};
+ghost use Rattle.record.specs.Contracts.{AcceptedRecord, RefusedRecord, LowestFigure, LowestField};
 
 // How many bytes a record's contents take: as text, and packed.
 pub const TEXT_LENGTH: usize = 74;
@@ -51,7 +51,7 @@ pub struct RecordRead {
 
 // A record read.
 pub fn accepted_record(r: Record) -> RecordRead
-    ensures { λ a. ⌜ a ≡ recordRead (accepted r) ⌝ }
+    ensures { λ a. ⌜ AcceptedRecord r a ⌝ }
 {
     RecordRead {
         verdict: Verdict::Done,
@@ -61,7 +61,7 @@ pub fn accepted_record(r: Record) -> RecordRead
 
 // A message refused.
 pub fn refused_record(r: Refusal) -> RecordRead
-    ensures { λ a. ⌜ a ≡ recordRead (refused r) ⌝ }
+    ensures { λ a. ⌜ RefusedRecord r a ⌝ }
 {
     let figures = Figures {
         focus: 0,
@@ -143,7 +143,7 @@ fn lowest_back(f: Figures, most: u32) -> u32
 
 // The lowest field out of range, or 0: distances reach as far as top, the pupil as far as most.
 pub fn lowest_figure(f: Figures, top: u32, most: u32) -> u32
-    ensures { λ r. ⌜ r ≡ figuresLowest top most f ⌝ }
+    ensures { λ r. ⌜ LowestFigure f top most r ⌝ }
 {
     let front = lowest_front(f, top);
     if front != 0 {
@@ -158,7 +158,7 @@ pub fn lowest_figure(f: Figures, top: u32, most: u32) -> u32
 
 // The lowest field out of range, or 0 where the record may be sent.
 pub fn lowest_field(r: Record) -> u32
-    ensures { λ i. ⌜ i ≡ recordLowest r ⌝ }
+    ensures { λ i. ⌜ LowestField r i ⌝ }
 {
     let figures = r.figures;
     let lowest = lowest_figure(figures, 9999999, 999);

@@ -2,11 +2,11 @@
 use Prim.Native.Nat.{ℕ}
 use mathlib.Core.Path.{_≡_}
 use Rattle.laws.proofs.OneAnswer.{one-answer}
+use Rattle.refusal.specs.Contracts.{NumberOf, ValueOf}
 use Rattle.refusal.specs.declared.Refusal.{Refusal}
-use Rattle.refusal.specs.Refusal.{numberOf, valueOf}
 
-pub one-number-of : (r : Refusal) {n n′ : ℕ} → n ≡ numberOf r → n′ ≡ numberOf r → n ≡ n′
+pub one-number-of : (r : Refusal) {n n′ : ℕ} → NumberOf r n → NumberOf r n′ → n ≡ n′
 one-number-of r = one-answer
 
-pub one-value-of : (r : Refusal) {n n′ : ℕ} → n ≡ valueOf r → n′ ≡ valueOf r → n ≡ n′
+pub one-value-of : (r : Refusal) {n n′ : ℕ} → ValueOf r n → ValueOf r n′ → n ≡ n′
 one-value-of r = one-answer

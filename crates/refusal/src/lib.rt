@@ -1,6 +1,5 @@
 // The refusals of document 01, each with the number and the value that the paper gives it.
-ghost use mathlib.Core.Path.{_≡_};
-ghost use Rattle.refusal.specs.Refusal.{numberOf, valueOf};
+ghost use Rattle.refusal.specs.Contracts.{NumberOf, ValueOf};
 
 pub enum Refusal {
     // 1: a record or measurement field out of range: the lowest one.
@@ -31,7 +30,7 @@ pub enum Verdict {
 
 // The paper's number.
 pub fn number_of(r: Refusal) -> u32
-    ensures { λ n. ⌜ n ≡ numberOf r ⌝ }
+    ensures { λ n. ⌜ NumberOf r n ⌝ }
 {
     match r {
         Refusal::Field(_) => 1,
@@ -48,7 +47,7 @@ pub fn number_of(r: Refusal) -> u32
 
 // What the paper returns beside the number; 0 where it says nothing.
 pub fn value_of(r: Refusal) -> usize
-    ensures { λ n. ⌜ n ≡ valueOf r ⌝ }
+    ensures { λ n. ⌜ ValueOf r n ⌝ }
 {
     match r {
         Refusal::Field(i) => i as usize,

@@ -5,19 +5,17 @@ use Rattle.laws.proofs.OneAnswer.{one-answer}
 use Rattle.line.specs.declared.Line.{Line}
 use Rattle.state.specs.declared.Message.{Message}
 use Rattle.state.specs.declared.Source.{Source}
-use Rattle.state.specs.State.{unsent}
-use Rattle.rules.specs.Does.{does, counts, continuous, recordMessage}
+use Rattle.reply.specs.Contracts.{Act, Counts, IsContinuous, RecordMessage}
 use Rattle.reply.specs.declared.Acted.{Acted}
-use Rattle.reply.specs.Reply.{actedOf}
 
-pub one-act : (s : Source) (l : Line) {r r′ : Acted} → r ≡ actedOf (does s l) → r′ ≡ actedOf (does s l) → r ≡ r′
-one-act s l = one-answer
+pub one-act : (source : Source) (line : Line) {r r′ : Acted} → Act source line r → Act source line r′ → r ≡ r′
+one-act source line = one-answer
 
-pub one-counts : (s : Source) (l : Line) {r r′ : Bool} → r ≡ counts s l → r′ ≡ counts s l → r ≡ r′
-one-counts s l = one-answer
+pub one-counts : (source : Source) (line : Line) {r r′ : Bool} → Counts source line r → Counts source line r′ → r ≡ r′
+one-counts source line = one-answer
 
-pub one-is-continuous : (s : Source) {r r′ : Bool} → r ≡ continuous s → r′ ≡ continuous s → r ≡ r′
-one-is-continuous s = one-answer
+pub one-is-continuous : (source : Source) {r r′ : Bool} → IsContinuous source r → IsContinuous source r′ → r ≡ r′
+one-is-continuous source = one-answer
 
-pub one-record-message : (s : Source) {r r′ : Message} → r ≡ unsent (recordMessage s) → r′ ≡ unsent (recordMessage s) → r ≡ r′
-one-record-message s = one-answer
+pub one-record-message : (source : Source) {r r′ : Message} → RecordMessage source r → RecordMessage source r′ → r ≡ r′
+one-record-message source = one-answer

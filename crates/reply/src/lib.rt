@@ -10,18 +10,17 @@ use state::Sending;
 use state::Source;
 use state::State;
 ghost use mathlib.Core.Path.{_≡_};
-ghost use mathlib.Core.Bool.{true};
 ghost use mathlib.Core.List.{[], _∷_};
 ghost use Prim.Native.Nat.{_≤_};
-ghost use Rattle.refusal.specs.declared.Verdict.the-variants.{Done};
 ghost use Rattle.frame.specs.Frame.{framed};
 ghost use Rattle.fixed.specs.Form.{fixedForm};
-ghost use Rattle.units.specs.Measurement.{measurementVerdict, degrees};
+ghost use Rattle.units.specs.Measurement.{degrees};
 ghost use Rattle.line.specs.Command.{InRange};
 ghost use Rattle.line.specs.declared.Command.the-variants as lines;
-ghost use Rattle.state.specs.State.{unsent, validSource};
+ghost use Rattle.state.specs.State.{unsent};
 ghost use Rattle.rules.specs.Does as table;
 ghost use Rattle.reply.specs.Reply.{actedOf};
+ghost use Rattle.reply.specs.Contracts.{Act, Counts, IsContinuous, RecordMessage};
 
 // A command acted on: the source after it, and the message of its reply, of length 0 where it has none.
 pub struct Acted {
@@ -33,7 +32,6 @@ pub struct Acted {
 
 // The record of the measurement in the display unit.
 fn record_now(source: Source) -> Record
-    requires { ⌜ measurementVerdict (source .measurement) ≡ Done ⌝ }
     ensures { λ r. ⌜ r ≡ table.recordNow source ⌝ }
 {
     let settings = source.settings;
@@ -46,7 +44,6 @@ fn record_now(source: Source) -> Record
 
 // The record in this form; where continuous sending is off, the text.
 fn record_in(source: Source, form: Sending) -> Message
-    requires { ⌜ measurementVerdict (source .measurement) ≡ Done ⌝ }
     ensures { λ r. ⌜ r ≡ unsent (framed (source .modes .checksum) (table.recordIs form source)) ⌝ }
 {
     let record = record_now(source);
@@ -118,7 +115,6 @@ fn type_name(source: Source) -> Acted
 
 // D, Kd: one record.
 fn record_reply(source: Source, form: Sending) -> Acted
-    requires { ⌜ measurementVerdict (source .measurement) ≡ Done ⌝ }
     ensures { λ r. ⌜ r ≡ actedOf (table.replies source (table.recordIs form source)) ⌝ }
 {
     let message = record_in(source, form);
@@ -291,7 +287,6 @@ fn unknown(source: Source) -> Acted
 
 // In running, by the letters of the command.
 fn running(source: Source, command: Command) -> Acted
-    requires { ⌜ measurementVerdict (source .measurement) ≡ Done ⌝ }
     requires { ⌜ InRange command ⌝ }
     ensures { λ r. ⌜ r ≡ actedOf (table.runs source command) ⌝ }
 {
@@ -359,8 +354,7 @@ fn ready(source: Source, command: Command) -> Acted
 
 // The line that waited, acted on.
 pub fn act(source: Source, line: Line) -> Acted
-    requires { ⌜ validSource source ≡ true ⌝ }
-    ensures { λ r. ⌜ r ≡ actedOf (table.does source line) ⌝ }
+    ensures { λ r. ⌜ Act source line r ⌝ }
 {
     let command = line.command();
     let modes = source.modes;
@@ -373,7 +367,7 @@ pub fn act(source: Source, line: Line) -> Acted
 
 // Whether its reply counts as one once it is sent: < does not.
 pub fn counts(source: Source, line: Line) -> bool
-    ensures { λ r. ⌜ r ≡ table.counts source line ⌝ }
+    ensures { λ r. ⌜ Counts source line r ⌝ }
 {
     let command = line.command();
     let modes = source.modes;
@@ -386,7 +380,7 @@ pub fn counts(source: Source, line: Line) -> bool
 
 // Whether continuous sending is on.
 pub fn is_continuous(source: Source) -> bool
-    ensures { λ r. ⌜ r ≡ table.continuous source ⌝ }
+    ensures { λ r. ⌜ IsContinuous source r ⌝ }
 {
     let modes = source.modes;
     let sending = modes.sending;
@@ -399,8 +393,7 @@ pub fn is_continuous(source: Source) -> bool
 
 // The record that continuous sending starts.
 pub fn record_message(source: Source) -> Message
-    requires { ⌜ validSource source ≡ true ⌝ }
-    ensures { λ r. ⌜ r ≡ unsent (table.recordMessage source) ⌝ }
+    ensures { λ r. ⌜ RecordMessage source r ⌝ }
 {
     let modes = source.modes;
     let sending = modes.sending;

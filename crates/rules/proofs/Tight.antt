@@ -24,7 +24,7 @@ use Rattle.record.specs.Record.{frontLowest, middleLowest, backLowest, figuresL
 use Rattle.fixed.specs.Fixed.{kindOk, letterOk, lensLowest, fixedLowest, settingsLowest}
 use Rattle.fixed.specs.Form.{serial as fixedSerial, owner, lensItems as fixedLens, version, fixedForm}
 use Rattle.units.specs.Units.{byUnit}
-use Rattle.units.specs.Measurement.{measurementLowest, measurementVerdict, figuresIn, recordIn}
+use Rattle.units.specs.Measurement.{measurementLowest, measurementVerdict, shownDistance, shownPupil, figuresIn, recordIn}
 use Rattle.line.specs.Line.{CR, zeros, ends, joined}
 use Rattle.line.specs.Command.{oneByte, commandIn, commandOf}
 use Rattle.state.specs.State.{validModes, validSource}
@@ -42,7 +42,7 @@ record Between : Type 0 where
   not-sooner : seen kindsIn (later (actBy - 1)) tooFew ≡ a-reply ∷ []
 
 computed : Attained × Between
-unfolding onSlot begin rules rule2 answer rule3 onByte onReturn onOther digits ending pointed stopText stop pupilText frontText middleText backText serial textForm fixedSerial owner fixedLens version fixedForm figuresIn recordIn ends joined zeros oneByte commandIn commandOf replies runs isN readies doesIn does countsIn counts recordIs recordMessage isOn
+unfolding onSlot begin rules rule2 answer rule3 onByte onReturn onOther digits ending pointed stopText stop pupilText frontText middleText backText serial textForm fixedSerial owner fixedLens version fixedForm shownDistance shownPupil figuresIn recordIn ends joined zeros oneByte commandIn commandOf replies runs isN readies doesIn does countsIn counts recordIs recordMessage isOn
 computed = (
   record {
     taken = refl;

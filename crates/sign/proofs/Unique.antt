@@ -4,13 +4,13 @@ use mathlib.Core.Bool.{Bool}
 use mathlib.Core.Path.{_≡_}
 use lib.IntN.{ℤ}
 use Rattle.laws.proofs.OneAnswer.{one-answer}
-use Rattle.sign.specs.Sign.{size, below0, signedOf}
+use Rattle.sign.specs.Contracts.{IsBelow, SizeOf, SignedOf}
 
-pub one-is-below : (e : ℤ) {r r′ : Bool} → r ≡ below0 e → r′ ≡ below0 e → r ≡ r′
+pub one-is-below : (e : ℤ) {r r′ : Bool} → IsBelow e r → IsBelow e r′ → r ≡ r′
 one-is-below e = one-answer
 
-pub one-size-of : (e : ℤ) {r r′ : ℕ} → r ≡ size e → r′ ≡ size e → r ≡ r′
+pub one-size-of : (e : ℤ) {r r′ : ℕ} → SizeOf e r → SizeOf e r′ → r ≡ r′
 one-size-of e = one-answer
 
-pub one-signed-of : (below : Bool) (n : ℕ) {r r′ : ℤ} → r ≡ signedOf below n → r′ ≡ signedOf below n → r ≡ r′
+pub one-signed-of : (below : Bool) (n : ℕ) {r r′ : ℤ} → SignedOf below n r → SignedOf below n r′ → r ≡ r′
 one-signed-of below n = one-answer

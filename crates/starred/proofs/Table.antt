@@ -2,16 +2,18 @@
 use mathlib.Core.Path.{refl}
 use Rattle.refusal.specs.Answer.{unless}
 use Rattle.digits.specs.Digits.{digits}
-use Rattle.frame.specs.Frame.{xorFrom, sumOf}
+use Rattle.codec.specs.Places.{fieldOf}
+use Rattle.frame.specs.Frame.{xorFrom, sumOf, ending}
 use Rattle.pointed.specs.Pointed.{pointed}
 use Rattle.stop.specs.Stop.{stopText, stop, pair}
 use Rattle.pupil.specs.Pupil.{pupilText, pupilPacked}
 use Rattle.record.specs.Forms.{frontText, middleText, backText, frontPacked, middlePacked, backPacked, serial, textForm, packedForm}
+use Rattle.record.specs.Places.{packedPlaces}
 use Rattle.units.specs.Units.{byUnit, sizeIn, numberIn, inRange, conversion}
-use Rattle.starred.specs.Starred.{recordR, textR, packedR, Starred}
+use Rattle.starred.specs.Starred.{likeR, recordR, textR, packedR, Starred}
 
 pub starred : Starred
-unfolding recordR textR packedR digits xorFrom sumOf pointed stopText stop pair pupilText pupilPacked frontText middleText backText frontPacked middlePacked backPacked serial textForm packedForm unless byUnit sizeIn numberIn inRange conversion
+unfolding likeR recordR textR packedR digits fieldOf packedPlaces xorFrom sumOf ending pointed stopText stop pair pupilText pupilPacked frontText middleText backText frontPacked middlePacked backPacked serial textForm packedForm unless byUnit sizeIn numberIn inRange conversion
 starred = record {
   record-as-text = refl;
   record-packed = refl;

@@ -1,35 +1,57 @@
 -- Document 01's bench figures marked *: one table, one statement.
 use Prim.Native.Nat.{ℕ}
+use mathlib.Core.Bool.{true}
 use mathlib.Core.List.{List, [], _∷_}
 use mathlib.Core.Path.{_≡_}
-use lib.IntN.{pos, negsuc}
+use lib.IntN.{ℤ, pos, negsuc}
+use lib.ListN.{take, drop}
 use Rattle.refusal.specs.Answer.{accepted}
-use Rattle.digits.specs.Digits.{groups}
-use Rattle.frame.specs.Frame.{sumOf}
-use Rattle.stop.specs.Stop.{pair}
-use Rattle.pupil.specs.Pupil.{pupilPacked}
+use Rattle.codec.specs.Places.{fieldOf}
+use Rattle.frame.specs.Frame.{framed}
 use Rattle.record.specs.Forms.{textForm, packedForm}
+use Rattle.record.specs.Places.{packedPlaces}
 use Rattle.record.specs.declared.Record.{Record}
 use Rattle.units.specs.Units.{conversion}
 
--- 798, 680, 56, 5, 0, 6123, 711, 909, 273, 23, 0, 4050.0093
-unfoldable pub recordR : Record
-recordR = record {
+-- record R, but for its focus distance, ring stop, tenth, entrance pupil and zoom
+unfoldable pub likeR : ℕ → ℕ → ℕ → ℤ → ℕ → Record
+likeR focus stop tenth pupil zoom = record {
   figures = record {
-    focus = 798;
+    focus = focus;
     aperture = 680;
-    stop = 56;
-    tenth = 5;
+    stop = stop;
+    tenth = tenth;
     focal = 0;
     hyperfocal = 6123;
     near = 711;
     far = 909;
     view = 273;
-    pupil = pos 23;
-    zoom = 0;
+    pupil = pupil;
+    zoom = zoom;
   };
   serial = 0x34 ∷ 0x30 ∷ 0x35 ∷ 0x30 ∷ 0x2E ∷ 0x30 ∷ 0x30 ∷ 0x39 ∷ 0x33 ∷ [];
 }
+
+-- 798, 680, 56, 5, 0, 6123, 711, 909, 273, 23, 0, 4050.0093
+unfoldable pub recordR : Record
+recordR = likeR 798 56 5 (pos 23) 0
+
+-- field i of the packed record, and the pair that fields 3 and 4 share
+abbrev pub packedField : ℕ → Record → List ℕ
+packedField i r = fieldOf packedPlaces i (packedForm .print r)
+
+abbrev pub packedPair : Record → List ℕ
+packedPair r = take 2 (drop 7 (packedForm .print r))
+
+-- a focus distance packed, behind its d
+abbrev pub distance : ℕ → List ℕ
+distance n = drop 1 (packedField 1 (likeR n 56 5 (pos 23) 0))
+
+abbrev pub pupil : ℤ → List ℕ
+pupil z = packedField 10 (likeR 798 56 5 z 0)
+
+abbrev pub zoom : ℕ → List ℕ
+zoom n = packedField 11 (likeR 798 56 5 (pos 23) n)
 
 -- D0000798T0680t5.6+5Z0000H0006123N0000711F0000909V027.3E+023z0000S4050.0093
 unfoldable pub textR : List ℕ
@@ -51,16 +73,16 @@ packedR =
 pub record Starred : Type 0 where
   pub record-as-text : textForm .print recordR ≡ textR
   pub record-packed : packedForm .print recordR ≡ packedR
-  -- `!` is `MN`, `?` is `L@`
-  pub sum-of-bang : sumOf (0x21 ∷ []) ≡ record { high = 0x4D; low = 0x4E }
-  pub sum-of-query : sumOf (0x3F ∷ []) ≡ record { high = 0x4C; low = 0x40 }
-  pub distance-388 : groups 4 388 ≡ 0x40 ∷ 0x40 ∷ 0x46 ∷ 0x44 ∷ []
-  pub distance-9999999 : groups 4 9999999 ≡ 0x66 ∷ 0x49 ∷ 0x59 ∷ 0x7F ∷ []
-  pub pupil-37 : pupilPacked .print (pos 37) ≡ 0x40 ∷ 0x65 ∷ []
-  pub pupil-minus-37 : pupilPacked .print (negsuc 36) ≡ 0x60 ∷ 0x65 ∷ []
-  pub pupil-minus-999 : pupilPacked .print (negsuc 998) ≡ 0x6F ∷ 0x67 ∷ []
-  pub zoom-1000 : groups 2 1000 ≡ 0x4F ∷ 0x68 ∷ []
-  pub stop-250-tenth-9 : pair .print (250, 9) ≡ 0xFA ∷ 0xC9 ∷ []
+  -- of `!` `MN`, of `?` `L@`, as they are sent
+  pub sum-of-bang : framed true (0x21 ∷ []) ≡ 0x21 ∷ 0x4D ∷ 0x4E ∷ 0x0A ∷ 0x0D ∷ []
+  pub sum-of-query : framed true (0x3F ∷ []) ≡ 0x3F ∷ 0x4C ∷ 0x40 ∷ 0x0A ∷ 0x0D ∷ []
+  pub distance-388 : distance 388 ≡ 0x40 ∷ 0x40 ∷ 0x46 ∷ 0x44 ∷ []
+  pub distance-9999999 : distance 9999999 ≡ 0x66 ∷ 0x49 ∷ 0x59 ∷ 0x7F ∷ []
+  pub pupil-37 : pupil (pos 37) ≡ 0x40 ∷ 0x65 ∷ []
+  pub pupil-minus-37 : pupil (negsuc 36) ≡ 0x60 ∷ 0x65 ∷ []
+  pub pupil-minus-999 : pupil (negsuc 998) ≡ 0x6F ∷ 0x67 ∷ []
+  pub zoom-1000 : zoom 1000 ≡ 0x4F ∷ 0x68 ∷ []
+  pub stop-250-tenth-9 : packedPair (likeR 798 250 9 (pos 23) 0) ≡ 0xFA ∷ 0xC9 ∷ []
   pub mm-1000 : conversion 1 (pos 1000) 77 73 ≡ accepted (pos 394)
   pub mm-9999999 : conversion 1 (pos 9999999) 77 73 ≡ accepted (pos 3937007)
   pub inch-25 : conversion 1 (pos 25) 73 77 ≡ accepted (pos 64)

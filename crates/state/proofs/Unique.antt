@@ -2,12 +2,12 @@
 use mathlib.Core.Bool.{Bool}
 use mathlib.Core.Path.{_≡_}
 use Rattle.laws.proofs.OneAnswer.{one-answer}
-use Rattle.state.specs.State.{validMessage, validSource}
+use Rattle.state.specs.Contracts.{ValidMessage, ValidSource}
 use Rattle.state.specs.declared.Message.{Message}
 use Rattle.state.specs.declared.Source.{Source}
 
-pub one-valid-message : (m : Message) {r r′ : Bool} → r ≡ validMessage m → r′ ≡ validMessage m → r ≡ r′
+pub one-valid-message : (m : Message) {r r′ : Bool} → ValidMessage m r → ValidMessage m r′ → r ≡ r′
 one-valid-message m = one-answer
 
-pub one-valid-source : (s : Source) {r r′ : Bool} → r ≡ validSource s → r′ ≡ validSource s → r ≡ r′
+pub one-valid-source : (s : Source) {r r′ : Bool} → ValidSource s r → ValidSource s r′ → r ≡ r′
 one-valid-source s = one-answer

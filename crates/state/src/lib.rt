@@ -4,7 +4,8 @@ use line::Line;
 use refusal::Verdict;
 use units::Measurement;
 ghost use mathlib.Core.Path.{_≡_};
-ghost use Rattle.state.specs.State.{isDone, validModes, validMessage, validSource};
+ghost use Rattle.state.specs.State.{isDone, validModes};
+ghost use Rattle.state.specs.Contracts.{ValidMessage, ValidSource};
 
 // The bytes that the message under way sits in.
 pub const MESSAGE_LENGTH: usize = 128;
@@ -80,14 +81,14 @@ fn is_done(v: Verdict) -> bool
 
 // Whether the message's counts are within the buffer and the message.
 pub fn valid_message(m: Message) -> bool
-    ensures { λ r. ⌜ r ≡ validMessage m ⌝ }
+    ensures { λ r. ⌜ ValidMessage m r ⌝ }
 {
     (m.len <= MESSAGE_LENGTH) & (m.at <= m.len)
 }
 
 // Whether the settings, the measurement and the modes are in their ranges. The settings, which cost most, come last.
 pub fn valid_source(s: Source) -> bool
-    ensures { λ r. ⌜ r ≡ validSource s ⌝ }
+    ensures { λ r. ⌜ ValidSource s r ⌝ }
 {
     let measurement = s.measurement;
     if !is_done(units::check_measurement(measurement)) {

@@ -13,7 +13,7 @@ use Rattle.digits.specs.Digits.{digits, only, decimal, readDecimal}
 use Rattle.digits.specs.declared.Field.{Field}
 use Rattle.digits.specs.declared.Field.the-variants.{Value, Wrong}
 use Rattle.digits.proofs.Laws.{read-digits, digits-read}
-use Rattle.codec.specs.Codec.{got, failing, first, both, fieldSays}
+use Rattle.codec.specs.Codec.{got, failing, both, fieldSays}
 use Rattle.codec.proofs.Exact.{Exact, holds, fine, first-zero, zero-first, both-is, field-is}
 use Rattle.pointed.specs.Pointed.{point, pointedText, pointed, readPointed}
 use Rattle.pointed.proofs.Exact.{pointed-long, pointed-width, pointed-print, pointed-lowest, pointed-exact, pointed-read}
@@ -143,18 +143,6 @@ stop-exact = record {
       (fine (stopOk n) 3 (p .0), p .1);
 }
 
-pub stop-width : stop .width ≡ 3
-unfolding stop
-stop-width = refl
-
-pub stop-print : (s : ℕ) → stop .print s ≡ stopText s
-unfolding stop
-stop-print s = refl
-
-pub stop-lowest : (s : ℕ) → stop .lowest s ≡ failing (stopOk s) 3
-unfolding stop
-stop-lowest s = refl
-
 -- what the code's reader says is what the codec parses
 pub stop-read : (s : List ℕ) → fieldSays 3 (readStopText s) ≡ stop .parse s
 unfolding stop
@@ -167,20 +155,20 @@ module _ (s t : ℕ) (h : stopOk s ≡ true) (k : t ≤ 9) where
   abbrev second : ℕ
   second = 128 + 64 * (s / 128 % 2) + t % 16
 
-  back-stop : readStop (128 + s % 128) second ≡ Value s
+  pub back-stop : readStop (128 + s % 128) second ≡ Value s
   unfolding readStop
   back-stop =
       let top = stop-top s h in
       let e : stopIn (128 + s % 128) second ≡ s = omega arith in
       rw (eq-eqb ((128 + s % 128) / 128) 1 (omega arith), e, h)
 
-  back-tenth : readTenth second ≡ Value t
+  pub back-tenth : readTenth second ≡ Value t
   unfolding readTenth
   back-tenth =
       let e : second % 64 ≡ t = omega arith in
       rw (eq-eqb (second / 128) 1 (omega arith), e, le-leb t 9 k)
 
-stop-found : (x y n : ℕ) → readStop x y ≡ Value n → (x / 128 ≡ 1) × (stopOk n ≡ true) × (stopIn x y ≡ n)
+pub stop-found : (x y n : ℕ) → readStop x y ≡ Value n → (x / 128 ≡ 1) × (stopOk n ≡ true) × (stopIn x y ≡ n)
 unfolding readStop
 stop-found x y n e =
     let u = only-is (eqb (x / 128) 1 && stopOk (stopIn x y)) (stopIn x y) n e in
@@ -218,18 +206,6 @@ pair-back p h =
 pub pair-exact : Exact pair
 unfolding pair
 pair-exact = record { long = λ p h. refl; back = pair-back; sound = pair-sound }
-
-pub pair-width : pair .width ≡ 2
-unfolding pair
-pair-width = refl
-
-pub pair-print : (s t : ℕ) → pair .print (s, t) ≡ stopPair s t
-unfolding pair
-pair-print s t = refl
-
-pub pair-lowest : (s t : ℕ) → pair .lowest (s, t) ≡ first (failing (stopOk s) 3) (failing (leb t 9) 4)
-unfolding pair
-pair-lowest s t = refl
 
 -- what the code's two readers say is what the codec parses
 pub pair-read : (s : List ℕ) → both (fieldSays 3 (readStop (getD s 0 0) (getD s 1 0))) (fieldSays 4 (readTenth (getD s 1 0))) ≡ pair .parse s

@@ -1,2 +1,3 @@
 pub mod Exact
+pub mod Blames
 pub mod Unique

@@ -1,1 +1,3 @@
 pub mod Stop
+pub mod Contracts
+pub mod Places

@@ -1,20 +1,18 @@
 // The ring stop and its tenth: the stop as three characters of text (5.6, 11.), and both as the
 // shared pair of the packed form.
 use digits::Field;
-ghost use mathlib.Core.Path.{_≡_};
-ghost use Rattle.laws.specs.Over.{over};
-ghost use Rattle.stop.specs.Stop.{stopOk, stopText, readStopText, stopPair, readStop, readTenth};
+ghost use Rattle.stop.specs.Contracts.{StopOk, PutStopText, ReadStopText, PutStopPair, ReadStop, ReadTenth};
 
 // Whether a stop may be sent: 0..99, or a multiple of 10 in 100..250.
 pub fn stop_ok(stop: u32) -> bool
-    ensures { λ r. ⌜ r ≡ stopOk stop ⌝ }
+    ensures { λ r. ⌜ StopOk stop r ⌝ }
 {
     (stop < 100) | ((stop % 10 == 0) & (stop <= 250))
 }
 
 // Writes the three characters of a stop.
 pub fn put_stop_text(out: &mut [u8], at: usize, stop: u32)
-    ensures { λ _. ⌜ now (out .exit) ≡ over (now (out .entry)) at (stopText stop) ⌝ }
+    ensures { λ _. ⌜ PutStopText (now (out .entry)) at stop (now (out .exit)) ⌝ }
 {
     if stop < 100 {
         pointed::put_pointed(out, at, 1, stop);
@@ -29,7 +27,7 @@ pub fn put_stop_text(out: &mut [u8], at: usize, stop: u32)
 
 // Reads the three characters of a stop; where the point stands tells the form.
 pub fn read_stop_text(s: &[u8]) -> Field
-    ensures { λ r. ⌜ r ≡ readStopText (now (s .entry)) ⌝ }
+    ensures { λ r. ⌜ ReadStopText (now (s .entry)) r ⌝ }
 {
     if s.len() != 3 {
         return Field::Wrong;
@@ -51,7 +49,7 @@ pub fn read_stop_text(s: &[u8]) -> Field
 
 // Writes the shared pair.
 pub fn put_stop_pair(out: &mut [u8], at: usize, stop: u32, tenth: u32)
-    ensures { λ _. ⌜ now (out .exit) ≡ over (now (out .entry)) at (stopPair stop tenth) ⌝ }
+    ensures { λ _. ⌜ PutStopPair (now (out .entry)) at stop tenth (now (out .exit)) ⌝ }
 {
     let first = 128 + stop % 128;
     let second = 128 + 64 * (stop / 128 % 2) + tenth % 16;
@@ -60,7 +58,7 @@ pub fn put_stop_pair(out: &mut [u8], at: usize, stop: u32, tenth: u32)
 
 // Reads the stop of a shared pair.
 pub fn read_stop(a: u8, b: u8) -> Field
-    ensures { λ r. ⌜ r ≡ readStop a b ⌝ }
+    ensures { λ r. ⌜ ReadStop a b r ⌝ }
 {
     let x = a as u32;
     let y = b as u32;
@@ -76,7 +74,7 @@ pub fn read_stop(a: u8, b: u8) -> Field
 
 // Reads the tenth of a shared pair from its second byte.
 pub fn read_tenth(b: u8) -> Field
-    ensures { λ r. ⌜ r ≡ readTenth b ⌝ }
+    ensures { λ r. ⌜ ReadTenth b r ⌝ }
 {
     let y = b as u32;
     if y / 128 != 1 {

@@ -7,8 +7,8 @@ use lib.ListN.{length, take, drop, length-take, length-drop}
 use lib.Seq.{drop-drop, length-take-le}
 use Rattle.laws.proofs.ListLaws.{last-part}
 use Rattle.digits.specs.Digits.{readDecimal}
-use Rattle.codec.specs.Codec.{both, fieldSays, readTagged}
-use Rattle.codec.proofs.Fields.{tagged-says, tagged-number}
+use Rattle.codec.specs.Codec.{both, fieldSays, readTagged, readWhole, parsed}
+use Rattle.codec.proofs.Fields.{read-whole, parsed-whole, tagged-says, tagged-number}
 use Rattle.pointed.specs.Pointed.{pointed, readPointed}
 use Rattle.pointed.proofs.Exact.{pointed-read}
 use Rattle.stop.specs.Stop.{stop, readStopText}
@@ -31,13 +31,14 @@ unfolding backText pointed pupilText
 back-width = refl
 
 module _ (s : List ℕ) where
-  pub front-parts : length s ≡ 19 → frontText .parse s ≡
+  pub front-parts : length s ≡ 19 → parsed frontText 1 s ≡
       both (fieldSays 1 (readTagged 68 (readDecimal topDistance) (take 8 s)))
       (both (fieldSays 2 (readTagged 84 (readDecimal 4095) (take 5 (drop 8 s))))
       (both (fieldSays 3 (readTagged 116 readStopText (take 4 (drop 13 s)))) (fieldSays 4 (readTagged 43 (readDecimal 9) (take 2 (drop 17 s))))))
   unfolding frontText stop
   front-parts l =
       rw (
+        parsed-whole frontText 1 front-width s l,
         drop-drop 5 8 s,
         drop-drop 4 13 s,
         last-part 17 2 s l,
@@ -47,13 +48,14 @@ module _ (s : List ℕ) where
         tagged-number 43 4 10 48 1 9 (drop 17 s),
       )
 
-  pub middle-parts : length s ≡ 29 → middleText .parse s ≡
+  pub middle-parts : length s ≡ 29 → parsed middleText 5 s ≡
       both (fieldSays 5 (readTagged 90 (readDecimal 1023) (take 5 s)))
       (both (fieldSays 6 (readTagged 72 (readDecimal topDistance) (take 8 (drop 5 s))))
       (both (fieldSays 7 (readTagged 78 (readDecimal topDistance) (take 8 (drop 13 s)))) (fieldSays 8 (readTagged 70 (readDecimal topDistance) (take 8 (drop 21 s))))))
   unfolding middleText
   middle-parts l =
       rw (
+        parsed-whole middleText 5 middle-width s l,
         drop-drop 8 5 s,
         drop-drop 8 13 s,
         last-part 21 8 s l,
@@ -63,17 +65,19 @@ module _ (s : List ℕ) where
         tagged-number 70 8 10 48 7 topDistance (drop 21 s),
       )
 
-  pub back-parts : length s ≡ 16 → backText .parse s ≡
-      both (fieldSays 9 (readTagged 86 (readPointed 4095) (take 6 s)))
+  pub back-parts : length s ≡ 16 → parsed backText 9 s ≡
+      both (fieldSays 9 (readWhole 6 (readTagged 86 (readPointed 4095)) (take 6 s)))
       (both (pupilSays (readPupilText (take 5 (drop 6 s)))) (fieldSays 11 (readTagged 122 (readDecimal 1000) (take 5 (drop 11 s)))))
   unfolding backText pointed
   back-parts l =
       let view : length (drop 1 (take 6 s)) ≡ 5 = simp (length-drop, length-take) (omega arith) in
       let pupil : length (take 5 (drop 6 s)) ≡ 5 = length-take-le 5 (drop 6 s) (simp length-drop (omega arith)) in
       rw (
+        parsed-whole backText 9 back-width s l,
         text-width,
         drop-drop 5 6 s,
         last-part 11 5 s l,
+        read-whole 6 (readTagged 86 (readPointed 4095)) (take 6 s) (length-take-le 6 s (omega arith)),
         tagged-says 86 (readPointed 4095) 9 (pointed 9 3 4095) (take 6 s) (pointed-read 9 3 4095 (drop 1 (take 6 s)) view),
         text-read (take 5 (drop 6 s)) pupil,
         tagged-number 122 11 10 48 4 1000 (drop 11 s),

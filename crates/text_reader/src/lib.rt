@@ -1,21 +1,19 @@
 // The reader of the text record (message D). The form is `textForm` of the crate record; each group of
-// fields has a function that reads it, and another crate may call it.
+// fields has a function that reads it, and another crate may call it. Of bytes of another number than
+// they take, the first field is wrong.
 use digits::Field;
 use gather::Four;
 use gather::Three;
 use pupil::Signed;
 use record::RecordRead;
 use record::TEXT_LENGTH;
+use refusal::Refusal;
 use refusal::Verdict;
 ghost use mathlib.Core.Path.{_≡_};
 ghost use lib.ListN.{length};
 ghost use Rattle.codec.specs.Codec.{readTagged};
-ghost use Rattle.pointed.specs.Pointed.{readPointed};
 ghost use Rattle.stop.specs.Stop.{readStopText};
-ghost use Rattle.frame.specs.Message.{found, readOf};
-ghost use Rattle.record.specs.Record.{recordRead};
-ghost use Rattle.record.specs.Forms.{frontText, middleText, backText, textLength, textForm};
-ghost use Rattle.gather.specs.Gather.{fourSays, threeSays};
+ghost use Rattle.text_reader.specs.Contracts.{ReadView, ReadFront, ReadMiddle, ReadBack, ReadContents, ReadText};
 
 // Reads t and a stop.
 fn read_stop(s: &[u8]) -> Field
@@ -30,9 +28,11 @@ fn read_stop(s: &[u8]) -> Field
 
 // Reads V and a number in tenths.
 pub fn read_view(s: &[u8]) -> Field
-    requires { ⌜ length (now s) ≡ 6 ⌝ }
-    ensures { λ r. ⌜ r ≡ readTagged 86 (readPointed 4095) (now (s .entry)) ⌝ }
+    ensures { λ r. ⌜ ReadView (now (s .entry)) r ⌝ }
 {
+    if s.len() != 6 {
+        return Field::Wrong;
+    }
     if s[0] != b'V' {
         return Field::Wrong;
     }
@@ -41,9 +41,11 @@ pub fn read_view(s: &[u8]) -> Field
 
 // Reads D, T, t, +.
 pub fn read_front(s: &[u8]) -> Four
-    requires { ⌜ length (now s) ≡ 19 ⌝ }
-    ensures { λ r. ⌜ fourSays r ≡ frontText .parse (now (s .entry)) ⌝ }
+    ensures { λ r. ⌜ ReadFront (now (s .entry)) r ⌝ }
 {
+    if s.len() != 19 {
+        return Four::Wrong(1);
+    }
     let Field::Value(focus) = codec::read_tagged(&s[0..8], b'D', 9999999) else {
         return Four::Wrong(1);
     };
@@ -61,9 +63,11 @@ pub fn read_front(s: &[u8]) -> Four
 
 // Reads Z, H, N, F.
 pub fn read_middle(s: &[u8]) -> Four
-    requires { ⌜ length (now s) ≡ 29 ⌝ }
-    ensures { λ r. ⌜ fourSays r ≡ middleText .parse (now (s .entry)) ⌝ }
+    ensures { λ r. ⌜ ReadMiddle (now (s .entry)) r ⌝ }
 {
+    if s.len() != 29 {
+        return Four::Wrong(5);
+    }
     let Field::Value(focal) = codec::read_tagged(&s[0..5], b'Z', 1023) else {
         return Four::Wrong(5);
     };
@@ -81,9 +85,11 @@ pub fn read_middle(s: &[u8]) -> Four
 
 // Reads V, E, z.
 pub fn read_back(s: &[u8]) -> Three
-    requires { ⌜ length (now s) ≡ 16 ⌝ }
-    ensures { λ r. ⌜ threeSays r ≡ backText .parse (now (s .entry)) ⌝ }
+    ensures { λ r. ⌜ ReadBack (now (s .entry)) r ⌝ }
 {
+    if s.len() != 16 {
+        return Three::Wrong(9);
+    }
     let Field::Value(view) = read_view(&s[0..6]) else {
         return Three::Wrong(9);
     };
@@ -98,9 +104,11 @@ pub fn read_back(s: &[u8]) -> Three
 
 // Reads the contents: 6 with the first wrong field.
 pub fn read_contents(s: &[u8]) -> RecordRead
-    requires { ⌜ length (now s) ≡ textLength ⌝ }
-    ensures { λ a. ⌜ a ≡ recordRead (found (textForm .parse (now (s .entry)))) ⌝ }
+    ensures { λ a. ⌜ ReadContents (now (s .entry)) a ⌝ }
 {
+    if s.len() != TEXT_LENGTH {
+        return record::refused_record(Refusal::Contents(1));
+    }
     let eleven = gather::gather(
         read_front(&s[0..19]),
         read_middle(&s[19..48]),
@@ -111,7 +119,7 @@ pub fn read_contents(s: &[u8]) -> RecordRead
 
 // Reads a message: its length, its end and its checksum, then its contents.
 pub fn read_text(m: &[u8], checksum: bool) -> RecordRead
-    ensures { λ a. ⌜ a ≡ recordRead (readOf textForm checksum (now (m .entry))) ⌝ }
+    ensures { λ a. ⌜ ReadText (now (m .entry)) checksum a ⌝ }
 {
     match frame::open(m, TEXT_LENGTH, checksum) {
         Verdict::Refused(r) => record::refused_record(r),

@@ -9,9 +9,8 @@ ghost use mathlib.Core.Path.{_≡_};
 ghost use Prim.Native.Nat.{_≤_};
 ghost use lib.ListN.{length};
 ghost use Rattle.laws.specs.Over.{over};
-ghost use Rattle.refusal.specs.declared.Refusal.the-variants.{Field};
-ghost use Rattle.frame.specs.Message.{WritesMessage};
-ghost use Rattle.record.specs.Forms.{frontText, middleText, backText, textForm, textLength, frontOf, middleOf, backOf};
+ghost use Rattle.record.specs.Forms.{frontText, middleText, backText, textLength, frontOf, middleOf, backOf};
+ghost use Rattle.text_writer.specs.Contracts.{PutTextRecord, WriteText};
 
 // Writes D, T, t, +.
 fn put_front(out: &mut [u8], f: Figures)
@@ -49,7 +48,7 @@ fn put_back(out: &mut [u8], f: Figures)
 
 // Writes a record's contents; nothing where they do not fit.
 pub fn put_text_record(out: &mut [u8], r: Record)
-    ensures { λ _. ⌜ now (out .exit) ≡ over (now (out .entry)) 0 (textForm .print r) ⌝ }
+    ensures { λ _. ⌜ PutTextRecord (now (out .entry)) r (now (out .exit)) ⌝ }
 {
     if out.len() < TEXT_LENGTH {
         return;
@@ -64,13 +63,13 @@ pub fn put_text_record(out: &mut [u8], r: Record)
 
 // Writes the message of a record at the start of the lent memory.
 pub fn write_text(r: Record, checksum: bool, out: &mut [u8]) -> Wrote
-    ensures { λ w. ⌜ WritesMessage textForm Field checksum r (now (out .entry)) w (now (out .exit)) ⌝ }
+    ensures { λ w. ⌜ WriteText r checksum (now (out .entry)) w (now (out .exit)) ⌝ }
 {
     let lowest = record::lowest_field(r);
     if lowest != 0 {
         return Wrote::Refused(Refusal::Field(lowest));
     }
-    let answer = frame::room_for(out.len(), TEXT_LENGTH, checksum);
+    let answer = frame::room_for(out.len(), TEXT_LENGTH as u32, checksum);
     let Wrote::Count(n) = answer else {
         return answer;
     };

@@ -1,4 +1,6 @@
 pub mod Nearest
 pub mod Ranges
+pub mod Table
+pub mod Promises
 pub mod Unique
 pub mod Examples

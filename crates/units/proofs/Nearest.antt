@@ -10,9 +10,7 @@ use lib.Dec.{eqb}
 use lib.IntN.{ℤ, pos, negsuc}
 use Rattle.laws.proofs.Tests.{told}
 use Rattle.sign.specs.Sign.{size, below0, signedOf}
-use Rattle.record.specs.declared.Figures.{Figures}
 use Rattle.units.specs.Units.{isUnit, byUnit, hundredths, Nearest, Converts, sizeIn, numberIn}
-use Rattle.units.specs.Measurement.{figuresIn}
 
 -- what holds for both letters holds for each
 pub either : (P : ℕ → Type 0) → P 73 → P 77 → (u : ℕ) → isUnit u ≡ true → P u
@@ -100,8 +98,3 @@ size-alike unit n = rw (eq-eqb unit unit refl)
 pub alike-unchanged : (unit : ℕ) (z : ℤ) → numberIn unit unit z ≡ z
 unfolding numberIn
 alike-unchanged unit z = rw (size-alike unit (size z)) (signed-back z)
-
--- a measurement in its own unit
-pub alike-figures : (unit : ℕ) (f : Figures) → figuresIn unit unit f ≡ f
-unfolding figuresIn
-alike-figures unit f = rw (size-alike, size-alike, size-alike, size-alike, alike-unchanged)

@@ -8,7 +8,7 @@ use native.Mathlib.Omega.{arith}
 use borrow.Author.Tests.{leb-true, le-leb, eqb-true, eq-eqb, ne-eqb, not-true}
 use lib.Dec.{leb, eqb}
 use lib.IntN.{ℤ}
-use Rattle.laws.proofs.Tests.{told, and-left, and-right, never}
+use Rattle.laws.proofs.Tests.{cond-yes, told, and-left, and-right, never}
 use Rattle.sign.specs.Sign.{size, below0}
 use Rattle.refusal.specs.declared.Verdict.the-variants.{Done, Refused}
 use Rattle.refusal.specs.declared.Refusal.{Refusal}
@@ -17,7 +17,7 @@ use Rattle.codec.proofs.Exact.{holds, fine, first-zero, zero-first}
 use Rattle.record.specs.Record.{topDistance, topPupil, frontLowest, middleLowest, backLowest, figuresLowest, recordLowest}
 use Rattle.record.specs.declared.Figures.{Figures}
 use Rattle.units.specs.Units.{isUnit, byUnit, inchDistance, inchPupil, topIn, mostIn, sizeIn, numberIn, isDistance, inRange, Distance}
-use Rattle.units.specs.Measurement.{measurementLowest, measurementVerdict, figuresIn, recordIn}
+use Rattle.units.specs.Measurement.{measurementLowest, measurementVerdict, shownDistance, shownPupil, figuresIn, recordIn}
 use Rattle.units.specs.declared.Measurement.{Measurement}
 use Rattle.units.proofs.Nearest.{either, size-signed}
 
@@ -100,14 +100,27 @@ steps {x} {x′} {rest} {rest′} f g h =
     let p = first-zero x rest h in
     zero-first x′ rest′ (f (p .0)) (g (p .1))
 
--- as the five fields stay in range and the others are untouched, no field leaves its range
-module _ (unit wanted top most top′ most′ : ℕ) (distance : (n : ℕ) → n ≤ top → sizeIn unit wanted n ≤ top′) (pupil : (n : ℕ) → n ≤ most → sizeIn unit wanted n ≤ most′) where
-  far-stays : (i n : ℕ) → failing (leb n top) (suc i) ≡ 0 → failing (leb (sizeIn unit wanted n) top′) (suc i) ≡ 0
-  far-stays i n h = fine _ (suc i) (le-leb _ top′ (distance n (within n top i h)))
+-- a number in range is shown converted, not as 0
+pub distance-whole : (unit display : ℕ) {n : ℕ} → n ≤ topDistance → shownDistance unit display n ≡ sizeIn unit display n
+unfolding shownDistance
+distance-whole unit display {n} h = cond-yes _ _ (le-leb n _ h)
 
-  pupil-stays : (z : ℤ) → failing (leb (size z) most) 10 ≡ 0 → failing (leb (size (numberIn unit wanted z)) most′) 10 ≡ 0
+pub pupil-whole : (unit display : ℕ) (z : ℤ) → size z ≤ topPupil → shownPupil unit display z ≡ numberIn unit display z
+unfolding shownPupil
+pupil-whole unit display z h = cond-yes _ _ (le-leb (size z) _ h)
+
+-- as the five fields stay in range and the others are untouched, no field leaves its range
+module _ (unit wanted top most top′ most′ : ℕ) (t : top ≤ topDistance) (m : most ≤ topPupil) (distance : (n : ℕ) → n ≤ top → sizeIn unit wanted n ≤ top′) (pupil : (n : ℕ) → n ≤ most → sizeIn unit wanted n ≤ most′) where
+  far-stays : (i n : ℕ) → failing (leb n top) (suc i) ≡ 0 → failing (leb (shownDistance unit wanted n) top′) (suc i) ≡ 0
+  far-stays i n h =
+      let l = within n top i h in
+      rw (distance-whole unit wanted (le-trans l t)) (fine _ (suc i) (le-leb _ top′ (distance n l)))
+
+  pupil-stays : (z : ℤ) → failing (leb (size z) most) 10 ≡ 0 → failing (leb (size (shownPupil unit wanted z)) most′) 10 ≡ 0
   unfolding numberIn
-  pupil-stays z h = rw (size-signed (below0 z) (sizeIn unit wanted (size z))) (fine _ 10 (le-leb _ most′ (pupil (size z) (within (size z) most 9 h))))
+  pupil-stays z h =
+      let l = within (size z) most 9 h in
+      rw (pupil-whole unit wanted z (le-trans l m), size-signed (below0 z) (sizeIn unit wanted (size z))) (fine _ 10 (le-leb _ most′ (pupil (size z) l)))
 
   figures-stay : (f : Figures) → figuresLowest top most f ≡ 0 → figuresLowest top′ most′ (figuresIn unit wanted f) ≡ 0
   unfolding figuresLowest frontLowest middleLowest backLowest figuresIn
@@ -142,7 +155,7 @@ sendable-in-either-unit m display serial done d s =
     let a = accepted-told m done in
     let unit = m .unit in
     zero-first _ _
-    (figures-stay unit display (topIn unit) (mostIn unit) topDistance topPupil
+    (figures-stay unit display (topIn unit) (mostIn unit) topDistance topPupil (top-bound unit) (most-bound unit)
     (λ n h. le-trans (stays n inchDistance topDistance unit display (omega arith) (omega arith) (a .letter) d h) (top-bound display))
     (λ n h. le-trans (stays n inchPupil topPupil unit display (omega arith) (omega arith) (a .letter) d h) (most-bound display))
     (m .figures) (a .figures))

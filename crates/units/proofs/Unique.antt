@@ -6,17 +6,17 @@ use lib.IntN.{ℤ}
 use Rattle.laws.proofs.OneAnswer.{one-answer}
 use Rattle.refusal.specs.declared.Verdict.{Verdict}
 use Rattle.record.specs.declared.Record.{Record}
-use Rattle.units.specs.Units.{conversion, convertedOf}
-use Rattle.units.specs.Measurement.{measurementVerdict, recordIn}
+use Rattle.units.specs.Contracts.{Convert, CheckMeasurement, RecordOf}
 use Rattle.units.specs.declared.Converted.{Converted}
 use Rattle.units.specs.declared.Measurement.{Measurement}
 
 pub one-convert : (field : ℕ) (number : ℤ) (unit wanted : ℕ) {r r′ : Converted} →
-    r ≡ convertedOf (conversion field number unit wanted) → r′ ≡ convertedOf (conversion field number unit wanted) → r ≡ r′
+    Convert field number unit wanted r → Convert field number unit wanted r′ → r ≡ r′
 one-convert field number unit wanted = one-answer
 
-pub one-check-measurement : (m : Measurement) {r r′ : Verdict} → r ≡ measurementVerdict m → r′ ≡ measurementVerdict m → r ≡ r′
+pub one-check-measurement : (m : Measurement) {r r′ : Verdict} → CheckMeasurement m r → CheckMeasurement m r′ → r ≡ r′
 one-check-measurement m = one-answer
 
-pub one-record-of : (m : Measurement) (display : ℕ) (serial : List ℕ) {r r′ : Record} → r ≡ recordIn display m serial → r′ ≡ recordIn display m serial → r ≡ r′
+pub one-record-of : (m : Measurement) (display : ℕ) (serial : List ℕ) {r r′ : Record} →
+    RecordOf m display serial r → RecordOf m display serial r′ → r ≡ r′
 one-record-of m display serial = one-answer

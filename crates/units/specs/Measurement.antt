@@ -11,7 +11,7 @@ use Rattle.refusal.specs.declared.Refusal.the-variants.{Field}
 use Rattle.refusal.specs.declared.Verdict.{Verdict}
 use Rattle.refusal.specs.declared.Verdict.the-variants.{Done, Refused}
 use Rattle.codec.specs.Codec.{failing, first}
-use Rattle.record.specs.Record.{figuresLowest}
+use Rattle.record.specs.Record.{topDistance, topPupil, figuresLowest}
 use Rattle.record.specs.declared.Figures.{Figures}
 use Rattle.record.specs.declared.Record.{Record}
 use Rattle.units.specs.Units.{isUnit, topIn, mostIn, sizeIn, numberIn}
@@ -40,19 +40,26 @@ measurementVerdict m =
     (cond (eqb (measurementLowest m) 0) Done (Refused (Field (measurementLowest m))))
     (Refused (Field 0))
 
+-- a distance and the pupil in the display unit; one out of every range counts as 0, and no accepted measurement has one
+unfoldable pub shownDistance : ℕ → ℕ → ℕ → ℕ
+shownDistance unit display n = cond (leb n topDistance) (sizeIn unit display n) 0
+
+unfoldable pub shownPupil : ℕ → ℕ → ℤ → ℤ
+shownPupil unit display z = cond (leb (size z) topPupil) (numberIn unit display z) (pos 0)
+
 -- fields 1, 6, 7, 8 and 10 converted, the others untouched
 unfoldable pub figuresIn : ℕ → ℕ → Figures → Figures
-figuresIn unit wanted f = record {
-  focus = sizeIn unit wanted (f .focus);
+figuresIn unit display f = record {
+  focus = shownDistance unit display (f .focus);
   aperture = f .aperture;
   stop = f .stop;
   tenth = f .tenth;
   focal = f .focal;
-  hyperfocal = sizeIn unit wanted (f .hyperfocal);
-  near = sizeIn unit wanted (f .near);
-  far = sizeIn unit wanted (f .far);
+  hyperfocal = shownDistance unit display (f .hyperfocal);
+  near = shownDistance unit display (f .near);
+  far = shownDistance unit display (f .far);
   view = f .view;
-  pupil = numberIn unit wanted (f .pupil);
+  pupil = shownPupil unit display (f .pupil);
   zoom = f .zoom;
 }
 

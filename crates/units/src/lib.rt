@@ -8,11 +8,11 @@ ghost use mathlib.Core.Path.{_≡_};
 ghost use Prim.Native.Nat.{_≤_};
 ghost use Rattle.refusal.specs.Answer.{accepted, unless};
 ghost use Rattle.refusal.specs.declared.Refusal.the-variants.{Field};
-ghost use Rattle.refusal.specs.declared.Verdict.the-variants.{Done};
 ghost use Rattle.sign.specs.Sign.{size};
-ghost use Rattle.record.specs.Record.{topDistance, topPupil, figuresLowest};
-ghost use Rattle.units.specs.Units.{isUnit, byUnit, topIn, mostIn, sizeIn, numberIn, isDistance, inRange, Distance, conversion, convertedOf};
-ghost use Rattle.units.specs.Measurement.{temperatureOk, measurementLowest, measurementVerdict, figuresIn, recordIn};
+ghost use Rattle.record.specs.Record.{topDistance, topPupil};
+ghost use Rattle.units.specs.Units.{isUnit, byUnit, topIn, mostIn, sizeIn, numberIn, isDistance, inRange, Distance, convertedOf};
+ghost use Rattle.units.specs.Measurement.{temperatureOk, measurementLowest, shownDistance, shownPupil, figuresIn};
+ghost use Rattle.units.specs.Contracts.{Convert, CheckMeasurement, RecordOf};
 
 pub struct Measurement {
     // I or M: the unit of fields 1, 6, 7, 8 and 10
@@ -129,7 +129,7 @@ fn convert_from(field: u32, number: i32, unit: u8, wanted: u8) -> Converted
 
 // A number of a field in the wanted unit.
 pub fn convert(field: u32, number: i32, unit: u8, wanted: u8) -> Converted
-    ensures { λ r. ⌜ r ≡ convertedOf (conversion field number unit wanted) ⌝ }
+    ensures { λ r. ⌜ Convert field number unit wanted r ⌝ }
 {
     if !is_unit(wanted) {
         return Converted::Refused(Refusal::Field(0));
@@ -167,7 +167,7 @@ fn lowest_of(m: Measurement) -> u32
 
 // Whether a measurement may be taken.
 pub fn check_measurement(m: Measurement) -> Verdict
-    ensures { λ r. ⌜ r ≡ measurementVerdict m ⌝ }
+    ensures { λ r. ⌜ CheckMeasurement m r ⌝ }
 {
     if !is_unit(m.unit) {
         return Verdict::Refused(Refusal::Field(0));
@@ -179,31 +179,49 @@ pub fn check_measurement(m: Measurement) -> Verdict
     Verdict::Done
 }
 
+// A distance in the display unit; 0 for one out of every range.
+fn shown_distance(unit: u8, display: u8, n: u32) -> u32
+    ensures { λ r. ⌜ r ≡ shownDistance unit display n ⌝ }
+{
+    if n > 9999999 {
+        return 0;
+    }
+    size_in(unit, display, n)
+}
+
+// The pupil in the display unit; 0 for one out of every range.
+fn shown_pupil(unit: u8, display: u8, e: i32) -> i32
+    ensures { λ r. ⌜ r ≡ shownPupil unit display e ⌝ }
+{
+    if sign::size_of(e) > 999 {
+        return 0;
+    }
+    pupil_in(unit, display, e)
+}
+
 // Fields 1 to 11 in the display unit.
 fn figures_in(f: Figures, unit: u8, display: u8) -> Figures
-    requires { ⌜ figuresLowest (topIn unit) (mostIn unit) f ≡ 0 ⌝ }
     ensures { λ r. ⌜ r ≡ figuresIn unit display f ⌝ }
 {
     let e = f.pupil;
     Figures {
-        focus: size_in(unit, display, f.focus),
+        focus: shown_distance(unit, display, f.focus),
         aperture: f.aperture,
         stop: f.stop,
         tenth: f.tenth,
         focal: f.focal,
-        hyperfocal: size_in(unit, display, f.hyperfocal),
-        near: size_in(unit, display, f.near),
-        far: size_in(unit, display, f.far),
+        hyperfocal: shown_distance(unit, display, f.hyperfocal),
+        near: shown_distance(unit, display, f.near),
+        far: shown_distance(unit, display, f.far),
         view: f.view,
-        pupil: pupil_in(unit, display, e),
+        pupil: shown_pupil(unit, display, e),
         zoom: f.zoom,
     }
 }
 
-// The record of an accepted measurement in the display unit.
+// The record of a measurement in the display unit; what no accepted measurement holds counts as 0.
 pub fn record_of(m: Measurement, display: u8, serial: [u8; 9]) -> Record
-    requires { ⌜ measurementVerdict m ≡ Done ⌝ }
-    ensures { λ r. ⌜ r ≡ recordIn display m serial ⌝ }
+    ensures { λ r. ⌜ RecordOf m display serial r ⌝ }
 {
     let f = m.figures;
     let figures = figures_in(f, m.unit, display);

@@ -7,7 +7,8 @@ use mathlib.Core.Path.{_≡_, refl, sym, ap, ap₂, subst, _∙_}
 use lib.ListN.{length, replicate}
 use Rattle.laws.proofs.OverLaws.{length-over}
 use Rattle.laws.proofs.Tests.{cond-yes, by}
-use Rattle.machine.specs.Machine.{State, port, Out, onByte, onReturn, onOther, onGiven, Events, received, slot, given, next, shows, run, sent, sentIn, start}
+use Rattle.machine.specs.Machine.{State, port, Out, onByte, onReturn, onOther, onGiven, Events, received, slot, given, shows, run, sent, sentIn, start}
+use Rattle.machine.specs.Promised.{Promised}
 use Rattle.machine.proofs.Use.{run-append, seen-append}
 use Rattle.refusal.specs.declared.Verdict.the-variants.{Done}
 use Rattle.fixed.specs.declared.Settings.{Settings}
@@ -16,10 +17,12 @@ use Rattle.units.specs.declared.Measurement.{Measurement}
 use Rattle.line.specs.declared.Line.{Line}
 use Rattle.line.specs.Line.{ends, validLine}
 use Rattle.line.proofs.Laws.{blank-valid}
+use Rattle.state.specs.declared.Source.{Source}
 use Rattle.state.specs.State.{messageLength, zeros}
 use Rattle.state.proofs.Laws.{zeros-long}
 use Rattle.rules.specs.Does.{isOn}
 use Rattle.rules.specs.Lens.{measurement, lens, Good, greeting}
+use Rattle.rules.specs.Promise.{actBy, replyBy, recordBy}
 use Rattle.rules.proofs.Demand3.{demand3}
 use Rattle.port.specs.declared.Port.{Port}
 use Rattle.port.specs.declared.Handed.{Handed}
@@ -28,52 +31,70 @@ use Rattle.port.specs.declared.Sent.{Sent}
 use Rattle.port.specs.declared.Sent.the-variants as sent
 use Rattle.port.specs.Port.{validPort, slotOf, takenOf, receiveOf, measuredPort, measureOf, started, startOf}
 use Rattle.port.proofs.Valid.{source-valid}
-use Rattle.port.proofs.Promises.{by-handed, start-is, kept-valid}
+use Rattle.port.proofs.Promises.{by-handed, leaves-new, kept-valid}
 use Rattle.fill.specs.Fill.{Run, thenRun, runOf, fillOf}
 use Rattle.fill.specs.declared.Filled.{Filled}
-use Rattle.walk.specs.View.{view, bytesOf}
+use Rattle.walk.specs.View.{bytesOf}
 use Rattle.walk.specs.Walk.{Sound}
-use Rattle.walk.specs.Calls.{Call, receive, slots-once, measure, fill, Held, after, bytes, ranBy, ran, eventsOf, afterAll, bytesAll, eventsAll, begun, OfThePort}
+use Rattle.walk.specs.Calls.{Call, receive, slots-once, measure, fill, Held, viewOf, after, bytes, ranBy, ran, eventsOf, afterAll, bytesAll, eventsAll, begun, FromStart, OfThePort}
 use Rattle.walk.proofs.Walk.{walks}
 
-abbrev viewOf : Held → State lens
-viewOf h = view (h .port) (h .line)
+-- what some calls and the machine's events for them come to
+pub record Follows (h h′ : Held) (bs : List ℕ) (es : Events lens) : Type 0 where
+  pub state : viewOf h′ ≡ run (viewOf h) es
+  pub sends : bs ≡ sent (viewOf h) es
+  pub sound : Sound (h′ .port)
+  pub line : validLine (h′ .line) ≡ true
 
--- what a call and the machine's events for it come to
-record Follows (h h′ : Held) (bs : List ℕ) (es : Events lens) : Type 0 where
-  state : viewOf h′ ≡ run (viewOf h) es
-  sends : bs ≡ sent (viewOf h) es
-  sound : Sound (h′ .port)
-  line : validLine (h′ .line) ≡ true
+-- one after the other
+then : {h x y : Held} {bs cs : List ℕ} {es fs : Events lens} → Follows h x bs es → Follows x y cs fs → Follows h y (bs ++ cs) (es ++ fs)
+then {h} {es = es} {fs} f g = record {
+  state = g .state ∙ ap (λ (s : State lens). run s fs) (f .state) ∙ sym (run-append (viewOf h) es fs);
+  sends = ap₂ (λ (x y : List ℕ). x ++ y) (f .sends) (g .sends ∙ ap (λ (s : State lens). sent s fs) (f .state)) ∙ sym (seen-append sentIn (viewOf h) es fs);
+  sound = g .sound;
+  line = g .line;
+}
 
--- ---- a fill, slot by slot
+-- ---- a fill is the slots it runs
 
--- a run of slots from p, as the machine sees it
-record Runs (n : ℕ) (p : Port) (l : Line) : Type 0 where
-  state : view (runOf n p .port) l ≡ run (view p l) (replicate (ran n p) slot)
-  sends : runOf n p .bytes ≡ sent (view p l) (replicate (ran n p) slot)
-  sound : Sound (runOf n p .port)
+slot-follows : (h : Held) → Sound (h .port) → validLine (h .line) ≡ true → Follows h (after h slots-once) (bytes h slots-once) (slot ∷ [])
+slot-follows h s l = record {
+  state = walks .slot-walks (h .port) (h .line) s;
+  sends = walks .slot-sends (h .port) (h .line) s ∙ sym (append-nil _);
+  sound = walks .slot-sound (h .port) s;
+  line = l;
+}
 
--- after a slot that sent t from a state x: the run goes on from y, or it ends there
-goes-on : (t : Sent) (q : Port) (l : Line) (k : ℕ) (x : State lens) → bytesOf t ≡ sentIn (shows x slot) → view q l ≡ next x slot → Sound q →
-    (r : Run) → view (r .port) l ≡ run (view q l) (replicate k slot) → r .bytes ≡ sent (view q l) (replicate k slot) → Sound (r .port) →
-    (view (thenRun t q r .port) l ≡ run x (replicate (ranBy t k) slot)) × ((thenRun t q r .bytes ≡ sent x (replicate (ranBy t k) slot)) × Sound (thenRun t q r .port))
-goes-on (sent.Byte b) q l k x o e s r f g h = (
-  f ∙ ap (λ (y : State lens). run y (replicate k slot)) e,
-  (ap₂ (λ (a c : List ℕ). a ++ c) o (g ∙ ap (λ (y : State lens). sent y (replicate k slot)) e), h),
-)
-goes-on sent.Idle q l k x o e s r f g h = (e, (o ∙ sym (append-nil (sentIn (shows x slot))), s))
-goes-on (sent.Refused z) q l k x o e s r f g h = (e, (o ∙ sym (append-nil (sentIn (shows x slot))), s))
+slots-follow : (k : ℕ) (h : Held) → Sound (h .port) → validLine (h .line) ≡ true →
+    Follows h (afterAll h (replicate k slots-once)) (bytesAll h (replicate k slots-once)) (replicate k slot)
+unfolding afterAll bytesAll
+slots-follow zero h s l = record { state = refl; sends = refl; sound = s; line = l }
+slots-follow (suc k) h s l =
+    let f = slot-follows h s l in
+    then f (slots-follow k (after h slots-once) (f .sound) (f .line))
 
-runs : (n : ℕ) (p : Port) (l : Line) → Sound p → Runs n p l
-unfolding runOf ran
-runs zero p l s = record { state = refl; sends = refl; sound = s }
-runs (suc n) p l s =
-    let q = slotOf p .port in
-    let w = walks .slot-sound p s in
-    let r = runs n q l w in
-    let g = goes-on (slotOf p .sent) q l (ran n q) (view p l) (walks .slot-sends p l s) (walks .slot-walks p l s) w (runOf n q) (r .state) (r .sends) (r .sound) in
-    record { state = g .0; sends = g .1 .0; sound = g .1 .1 }
+-- a run of k slots from h leaves this port and these bytes
+pub record Runs (h : Held) (k : ℕ) (r : Run) : Type 0 where
+  pub state : afterAll h (replicate k slots-once) ≡ record { port = r .port; line = h .line }
+  pub sends : bytesAll h (replicate k slots-once) ≡ r .bytes
+
+-- after a slot that sent t: the run goes on, or it ends there
+goes-on : (h : Held) (t : Sent) (k : ℕ) (r : Run) → slotOf (h .port) .sent ≡ t → Runs (after h slots-once) k r → Runs h (ranBy t k) (thenRun t (slotOf (h .port) .port) r)
+unfolding afterAll bytesAll
+goes-on h (sent.Byte b) k r e f = record { state = f .state; sends = ap₂ (λ (x y : List ℕ). x ++ y) (ap bytesOf e) (f .sends) }
+goes-on h sent.Idle k r e f = record { state = refl; sends = ap (λ (x : Sent). bytesOf x ++ []) e }
+goes-on h (sent.Refused z) k r e f = record { state = refl; sends = ap (λ (x : Sent). bytesOf x ++ []) e }
+
+runs : (n : ℕ) (h : Held) → Runs h (ran n (h .port)) (runOf n (h .port))
+unfolding runOf ran afterAll bytesAll
+runs zero h = record { state = refl; sends = refl }
+runs (suc n) h = goes-on h (slotOf (h .port) .sent) _ _ refl (runs n (after h slots-once))
+
+pub fill-is : (h : Held) (n : ℕ) → validPort (h .port) ≡ true → Runs h (ran n (h .port)) (record { port = fillOf (h .port) n .port; bytes = bytes h (fill n) })
+unfolding fillOf
+fill-is h n v =
+    let r = runs n h in
+    record { state = r .state ∙ ap (λ (x : Filled). record { port = x .port; line = h .line }) (sym (cond-yes _ _ v)); sends = r .sends }
 
 -- ---- each call
 
@@ -101,23 +122,14 @@ measured-long p m h =
     let P : Handed → Type 0 = λ x. length (x .port .message .bytes) ≡ messageLength in
     by P (validPort p) _ _ (λ v. by-handed P (measurementVerdict m) (measuredPort p m) p (λ d. h) (λ r. h)) (λ n. h)
 
-fill-is : (p : Port) (n : ℕ) → validPort p ≡ true → fillOf p n .port ≡ runOf n p .port
-unfolding fillOf
-fill-is p n v = ap (λ (x : Filled). x .port) (cond-yes _ _ v)
-
-follows : (h : Held) (c : Call) → Sound (h .port) → validLine (h .line) ≡ true → Follows h (after h c) (bytes h c) (eventsOf h c)
+pub follows : (h : Held) (c : Call) → Sound (h .port) → validLine (h .line) ≡ true → Follows h (after h c) (bytes h c) (eventsOf h c)
 follows h (receive b) s l = record {
   state = walks .receive-walks (h .port) (h .line) b s l;
   sends = sym (ap (λ (x : List ℕ). x ++ []) (quiet-byte (viewOf h) b));
   sound = record { valid = kept-valid .receive (h .port) (h .line) b (s .valid); long = received-long (h .port) (h .line) b (s .long) };
   line = kept-valid .line (h .port) (h .line) b l;
 }
-follows h slots-once s l = record {
-  state = walks .slot-walks (h .port) (h .line) s;
-  sends = walks .slot-sends (h .port) (h .line) s ∙ sym (append-nil _);
-  sound = walks .slot-sound (h .port) s;
-  line = l;
-}
+follows h slots-once s l = slot-follows h s l
 follows h (measure m) s l = record {
   state = walks .measure-walks (h .port) (h .line) m s;
   sends = sym (ap (λ (x : List ℕ). x ++ []) (quiet-measure (viewOf h) m));
@@ -125,54 +137,70 @@ follows h (measure m) s l = record {
   line = l;
 }
 follows h (fill n) s l =
-    let r = runs n (h .port) (h .line) s in
-    let e = fill-is (h .port) n (s .valid) in
-    record {
-      state = ap (λ (p : Port). view p (h .line)) e ∙ r .state;
-      sends = r .sends;
-      sound = subst Sound (sym e) (r .sound);
-      line = l;
-    }
+    let r = fill-is h n (s .valid) in
+    let F : Held → List ℕ → Type 0 = λ x bs. Follows h x bs (eventsOf h (fill n)) in
+    subst (λ x. F x (bytes h (fill n))) (r .state) (subst (F _) (r .sends) (slots-follow (ran n (h .port)) h s l))
 
 -- ---- all calls
 
-all-follow : (h : Held) (cs : List Call) → Sound (h .port) → validLine (h .line) ≡ true →
-    (viewOf (afterAll h cs) ≡ run (viewOf h) (eventsAll h cs)) × (bytesAll h cs ≡ sent (viewOf h) (eventsAll h cs))
+pub all-follow : (h : Held) (cs : List Call) → Sound (h .port) → validLine (h .line) ≡ true → Follows h (afterAll h cs) (bytesAll h cs) (eventsAll h cs)
 unfolding afterAll bytesAll eventsAll
-all-follow h [] s l = (refl, refl)
+all-follow h [] s l = record { state = refl; sends = refl; sound = s; line = l }
 all-follow h (c ∷ cs) s l =
     let f = follows h c s l in
-    let g = all-follow (after h c) cs (f .sound) (f .line) in
-    let es = eventsOf h c in
-    let fs = eventsAll (after h c) cs in (
-      g .0 ∙ ap (λ (x : State lens). run x fs) (f .state) ∙ sym (run-append (viewOf h) es fs),
-      ap₂ (λ (x y : List ℕ). x ++ y) (f .sends) (g .1 ∙ ap (λ (x : State lens). sent x fs) (f .state)) ∙ sym (seen-append sentIn (viewOf h) es fs),
-    )
+    then f (all-follow (after h c) cs (f .sound) (f .line))
 
 -- ---- from a start
 
-start-sound : (old : Port) (s : Settings) (m : Measurement) → startOf old s m .verdict ≡ Done → Sound (startOf old s m .port)
-start-sound old s m e =
+start-sound : (old : Port) (l : Line) (s : Settings) (m : Measurement) → startOf old l s m .verdict ≡ Done → Sound (startOf old l s m .port)
+start-sound old l s m e =
     let z = zeros-long in
     record {
-      valid = kept-valid .start old s m e;
-      long = ap (λ (p : Port). length (p .message .bytes)) (start-is old s m e) ∙ (length-over zeros greeting 0 ∙ z);
+      valid = kept-valid .start old l s m e;
+      long = ap (λ (p : Port). length (p .message .bytes)) (leaves-new old l s m e .0) ∙ (length-over zeros greeting 0 ∙ z);
     }
 
-started-good : (old : Port) (s : Settings) (m : Measurement) → startOf old s m .verdict ≡ Done → Good (started s m .source)
+start-line : (old : Port) (l : Line) (s : Settings) (m : Measurement) → startOf old l s m .verdict ≡ Done → validLine (startOf old l s m .line) ≡ true
+start-line old l s m e = subst (λ (x : Line). validLine x ≡ true) (sym (leaves-new old l s m e .1)) blank-valid
+
+started-good : (old : Port) (l : Line) (s : Settings) (m : Measurement) → startOf old l s m .verdict ≡ Done → Good (started s m .source)
 unfolding isOn
-started-good old s m e = record {
-  valid = source-valid (started s m) (subst (λ (p : Port). validPort p ≡ true) (start-is old s m e) (kept-valid .start old s m e));
+started-good old l s m e = record {
+  valid = source-valid (started s m) (subst (λ (p : Port). validPort p ≡ true) (leaves-new old l s m e .0) (kept-valid .start old l s m e));
   ready-off = λ r. refl;
 }
 
+started-follows : (old : Port) (l : Line) (s : Settings) (m : Measurement) (cs : List Call) → startOf old l s m .verdict ≡ Done →
+    let h = begun old l s m in
+    Follows h (afterAll h cs) (bytesAll h cs) (eventsAll h cs)
+started-follows old l s m cs e = all-follow (begun old l s m) cs (start-sound old l s m e) (start-line old l s m e)
+
 pub of-the-port : OfThePort
 of-the-port = record {
-  states = λ old s m cs e.
-      let h = begun old s m in
-      all-follow h cs (start-sound old s m e) blank-valid .0 ∙ ap (λ (x : State lens). run x (eventsAll h cs)) (walks .start-walks old s m e);
-  sends = λ old s m cs e.
-      let h = begun old s m in
-      all-follow h cs (start-sound old s m e) blank-valid .1 ∙ ap (λ (x : State lens). sent x (eventsAll h cs)) (walks .start-walks old s m e);
-  demand3 = λ old s m e. demand3 (started s m .source) (started-good old s m e);
+  states = λ old l s m cs e. started-follows old l s m cs e .state ∙ ap (λ (x : State lens). run x (eventsAll (begun old l s m) cs)) (walks .start-walks old l s m e);
+  sends = λ old l s m cs e. started-follows old l s m cs e .sends ∙ ap (λ (x : State lens). sent x (eventsAll (begun old l s m) cs)) (walks .start-walks old l s m e);
+  demand3 = λ old l s m e. demand3 (started s m .source) (started-good old l s m e);
 }
+
+-- what the driver holds from a start, as the machine sees it, and what is promised of it
+pub record Reached (h : Held) : Type 0 where
+  pub source : Source
+  pub before : Events lens
+  pub state : viewOf h ≡ run (start lens source) before
+  pub sound : Sound (h .port)
+  pub line : validLine (h .line) ≡ true
+  pub promised : Promised lens actBy replyBy recordBy source
+
+pub reached : {h : Held} → FromStart h → Reached h
+reached f =
+    let m = f .measurement in
+    let g = started-follows (f .old) (f .old-line) (f .settings) m (f .calls) (f .accepted) in
+    subst Reached (sym (f .held))
+    (record {
+      source = started (f .settings) m .source;
+      before = eventsAll (begun (f .old) (f .old-line) (f .settings) m) (f .calls);
+      state = of-the-port .states (f .old) (f .old-line) (f .settings) m (f .calls) (f .accepted);
+      sound = g .sound;
+      line = g .line;
+      promised = of-the-port .demand3 (f .old) (f .old-line) (f .settings) m (f .accepted);
+    })

@@ -128,6 +128,6 @@ in-place = record {
   ended = ended;
   joined = λ p l b v f z. (done p l b v f z, stays p l b v f);
   refused = refused;
-  states = λ old s m cs e. states _ cs (kept-valid .start old s m e);
-  sends = λ old s m cs e. sends _ cs (kept-valid .start old s m e);
+  states = λ old l s m cs e. states _ cs (kept-valid .start old l s m e);
+  sends = λ old l s m cs e. sends _ cs (kept-valid .start old l s m e);
 }

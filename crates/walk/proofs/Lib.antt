@@ -1,4 +1,14 @@
 pub mod Slot
 pub mod Walk
 pub mod Calls
+pub mod Here
+pub mod Byte
+pub mod BySlots
+pub mod InOrder
+pub mod Messages
+pub mod Answers
+pub mod Records
+pub mod InCalls
 pub mod InPlace
+pub mod TightStart
+pub mod Entries

@@ -3,17 +3,17 @@ use Prim.Native.Nat.{ℕ, suc, _+_, _≤_, _<_}
 use mathlib.Core.Bool.{Bool, true, false, _&&_, cond}
 use mathlib.Core.List.{List, [], _∷_}
 use mathlib.Core.Option.{Option, none, some}
-use mathlib.Core.Path.{_≡_, refl, sym, ap, subst, _∙_}
+use mathlib.Core.Path.{_≡_, refl, sym, ap, ap₂, subst, _∙_}
 use native.Mathlib.Numerals.{add-one}
 use native.Mathlib.Omega.{arith}
-use borrow.Author.Tests.{ltb-true, ltb-false, eqb-true, eqb-false}
+use borrow.Author.Tests.{leb-true, ltb-true, ltb-false, eqb-true, eqb-false}
 use lib.Arith.{lt-of-le-ne}
-use lib.Dec.{ltb, eqb}
+use lib.Dec.{leb, ltb, eqb}
 use lib.ListN.{length, take, drop, getD, drop-of-length-le}
 use lib.Seq.{drop-cons, getD-take, length-take-le}
 use Rattle.laws.proofs.OverLaws.{length-over, take-over}
-use Rattle.laws.proofs.Tests.{cond-no, told}
-use Rattle.machine.specs.Machine.{Kind, neither, a-record, State, port, Out, sends, begins, Choice, choice, owed, rule3, answer, rule2, rules, sent-one, replyKind, begin, onSlot, sentIn}
+use Rattle.laws.proofs.Tests.{and-right, cond-yes, cond-no, told, by, never}
+use Rattle.machine.specs.Machine.{Kind, neither, a-record, State, port, Out, sends, begins, Choice, choice, owed, rule3, answer, rule2, rules, sent-one, replyKind, listed, begin, onSlot, actedIn, sentIn}
 use Rattle.line.specs.declared.Line.{Line}
 use Rattle.state.specs.declared.Last.{Last}
 use Rattle.state.specs.declared.Last.the-variants as last
@@ -31,7 +31,7 @@ use Rattle.port.specs.declared.Slotted.{Slotted}
 use Rattle.port.specs.declared.Sent.the-variants as sent
 use Rattle.port.specs.Port.{movedIf, sendFrom, begunWith, beginsRecord, restOf, nobody, freed, replyLast, answers, isReply, actOf, chooseOf, slotOf}
 use Rattle.port.proofs.Valid.{source-valid, message-valid, message-low}
-use Rattle.walk.specs.View.{kindOf, waitsOf, leftOf, view, bytesOf}
+use Rattle.walk.specs.View.{kindOf, waitsOf, holding, leftOf, view, bytesOf}
 use Rattle.walk.specs.Walk.{Sound}
 
 -- what a slot of the port and the machine's step come to: the same state, the same bytes, and a buffer as long as before
@@ -88,8 +88,21 @@ begin-alike s b bs k w l out low o =
     (length-over zeros xs 0 ∙ z) (omega arith) (omega arith) (take-over zeros xs (length xs) refl (omega arith)) o
 
 -- nothing is left where the place is the length
-none-left : (m : Message) → validMessage m ≡ true → length (m .bytes) ≡ messageLength → m .len ≤ m .at → leftOf m ≡ []
+pub none-left : (m : Message) → validMessage m ≡ true → length (m .bytes) ≡ messageLength → m .len ≤ m .at → leftOf m ≡ []
 none-left m v long h = drop-of-length-le (take (m .len) (m .bytes)) {i = m .at} (omega (arith, length-take-le (m .len) (m .bytes) (rw long (message-low m v))))
+
+-- and where nothing is left the place is the length
+pub all-sent : (m : Message) → validMessage m ≡ true → length (m .bytes) ≡ messageLength → leftOf m ≡ [] → m .at ≡ m .len
+unfolding validMessage
+all-sent m v long e =
+    let low = message-low m v in
+    let in-it = leb-true (m .at) (m .len) (and-right (leb (m .len) messageLength) (leb (m .at) (m .len)) v) in
+    told (ltb (m .at) (m .len))
+    (λ y.
+    let i = left-is (m .bytes) (m .len) (m .at) long low (ltb-true (m .at) (m .len) y) in
+    let h : getD (m .bytes) (m .at) 0 ∷ drop (m .at + 1) (take (m .len) (m .bytes)) ≡ [] = sym i ∙ e in
+    never (cc))
+    (λ n. omega (arith, ltb-false (m .at) (m .len) n))
 
 and-false : (b : Bool) → (b && false) ≡ false
 and-false true = refl
@@ -166,7 +179,7 @@ later-alike p l v long e =
     (λ y. subst P (sym y) (act-alike p l v long e))
     (λ n. subst P (sym n) (rest-alike p l v none long e (cond-no _ _ n)))
 
-owed-is : (s : Source) (k : Last) → owed lens s (kindOf k) ≡ (continuous s && isReply k)
+pub owed-is : (s : Source) (k : Last) → owed lens s (kindOf k) ≡ (continuous s && isReply k)
 owed-is s last.Neither = sym (and-false (continuous s))
 owed-is s last.Record = sym (and-false (continuous s))
 owed-is s last.Reply = sym (and-true (continuous s))
@@ -197,3 +210,70 @@ slot-alike p l s =
     (λ n.
     let e : leftOf m ≡ [] = none-left m (message-valid p (s .valid)) (s .long) (ltb-false (m .at) (m .len) n) in
     rw (n, e) (choose-alike p l src (s .long) e)))
+
+-- ---- where a slot acts
+
+-- the command that a choice acts on
+abbrev actsOn : Choice lens → Option Line
+actsOn (choice a m w k xs) = a
+
+begin-acts : (c : Choice lens) (k : Kind) (l : Line) → actedIn (begin c k l .1) ≡ listed (actsOn c)
+unfolding begin
+begin-acts (choice a m w k []) before l = refl
+begin-acts (choice a m w k (b ∷ bs)) before l = refl
+
+rule3-acts : (a : Option Line) (s : Source) → actsOn (rule3 lens a s) ≡ a
+unfolding rule3
+rule3-acts a s = by (λ (c : Choice lens). actsOn c ≡ a) (continuous s) _ _ (λ y. refl) (λ n. refl)
+
+answer-acts : (xs : List ℕ) (s : Source) (c : Line) → actsOn (answer lens xs s c) ≡ some c
+unfolding answer
+answer-acts [] s c = rule3-acts (some c) (does s c .source)
+answer-acts (b ∷ bs) s c = refl
+
+rule2-acts : (s : Source) (w : Option Line) → actsOn (rule2 lens s w) ≡ w
+unfolding rule2
+rule2-acts s none = rule3-acts none s
+rule2-acts s (some c) = answer-acts (does s c .reply) s c
+
+-- the waiting place that the machine sees filled
+pub waits-some : (w : Waiting) (c : Line) → waitsOf w ≡ some c → w ≡ holding c
+waits-some w c e =
+    told (w .some)
+    (λ y.
+    let h : some (w .line) ≡ some c = sym (cond-yes _ _ y) ∙ e in
+    let k : w .line ≡ c = cc in
+    ap₂ (λ s l. record { some = s; line = l }) y k)
+    (λ n.
+    let h : none ≡ some c = sym (cond-no _ _ n) ∙ e in
+    never (cc))
+
+listed-one : (w : Option Line) (c : Line) → listed w ≡ c ∷ [] → w ≡ some c
+listed-one none c e = never (cc)
+listed-one (some d) c e = cc
+
+choose-acts : (p : Port) (l : Line) (c : Line) → actedIn (begin (rules lens (p .source) (waitsOf (p .waiting)) (kindOf (p .last))) (kindOf (p .last)) l .1) ≡ c ∷ [] →
+    (p .waiting ≡ holding c) × (chooseOf p ≡ actOf p)
+unfolding chooseOf rules
+choose-acts p l c e =
+    let w = waitsOf (p .waiting) in
+    let a : listed (actsOn (rules lens (p .source) w (kindOf (p .last)))) ≡ c ∷ [] = sym (begin-acts _ _ l) ∙ e in
+    told (continuous (p .source) && isReply (p .last))
+    (λ y.
+    let h : [] ≡ c ∷ [] = sym (ap (λ (x : Choice lens). listed (actsOn x)) (cond-yes _ _ (owed-is (p .source) (p .last) ∙ y))) ∙ a in
+    never (cc))
+    (λ n.
+    let r = ap (λ (x : Choice lens). listed (actsOn x)) (cond-no _ _ (owed-is (p .source) (p .last) ∙ n)) in
+    let h = waits-some (p .waiting) c (listed-one w c (sym (ap (λ (x : Option Line). listed x) (rule2-acts (p .source) w)) ∙ sym r ∙ a)) in
+    (h, cond-no _ _ n ∙ cond-yes _ _ (ap (λ (x : Waiting). x .some) h)))
+
+-- a slot in which the machine acts on a command is rule 2 of the port, and that command waits
+pub slot-acts : (p : Port) (l : Line) (c : Line) → Sound p → actedIn (onSlot (view p l) .1) ≡ c ∷ [] → (p .waiting ≡ holding c) × (slotOf p ≡ actOf p)
+unfolding slotOf view onSlot
+slot-acts p l c s =
+    let m = p .message in
+    let low = message-low m (message-valid p (s .valid)) in
+    rw (s .valid)
+    (told (ltb (m .at) (m .len))
+    (λ y. rw (y, left-is (m .bytes) (m .len) (m .at) (s .long) low (ltb-true (m .at) (m .len) y)) (λ e. never (cc)))
+    (λ n. rw (n, none-left m (message-valid p (s .valid)) (s .long) (ltb-false (m .at) (m .len) n)) (choose-acts p l c)))

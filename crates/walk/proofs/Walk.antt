@@ -3,7 +3,7 @@ use Prim.Native.Nat.{ℕ}
 use mathlib.Core.Bool.{Bool, true, cond}
 use mathlib.Core.List.{List}
 use mathlib.Core.Option.{Option, none, some}
-use mathlib.Core.Path.{_≡_, refl, sym, ap, subst, _∙_}
+use mathlib.Core.Path.{_≡_, refl, sym, ap, ap₂, subst, _∙_}
 use native.Mathlib.Omega.{arith}
 use lib.ListN.{length}
 use Rattle.laws.proofs.OverLaws.{take-over}
@@ -24,7 +24,7 @@ use Rattle.port.specs.declared.Port.{Port}
 use Rattle.port.specs.declared.Received.{Received}
 use Rattle.port.specs.Port.{takenPort, takenOf, receiveOf, handed, measuredPort, measureOf, started, startOf}
 use Rattle.port.proofs.Valid.{slot-fine}
-use Rattle.port.proofs.Promises.{start-is}
+use Rattle.port.proofs.Promises.{leaves-new}
 use Rattle.walk.specs.View.{kindOf, waitsOf, leftOf, view}
 use Rattle.walk.specs.Walk.{Sound, Walks}
 use Rattle.walk.proofs.Slot.{slot-alike}
@@ -37,8 +37,11 @@ started-view s m =
     let z = zeros-long in
     ap (λ (u : List ℕ). port (started s m .source) none u neither blank) (take-over zeros greeting (length greeting) refl (omega arith))
 
-start-walks : (old : Port) (s : Settings) (m : Measurement) → startOf old s m .verdict ≡ Done → view (startOf old s m .port) blank ≡ start lens (started s m .source)
-start-walks old s m e = ap (λ (p : Port). view p blank) (start-is old s m e) ∙ started-view s m
+start-walks : (old : Port) (l : Line) (s : Settings) (m : Measurement) → startOf old l s m .verdict ≡ Done →
+    view (startOf old l s m .port) (startOf old l s m .line) ≡ start lens (started s m .source)
+start-walks old l s m e =
+    let n = leaves-new old l s m e in
+    ap₂ view (n .0) (n .1) ∙ started-view s m
 
 -- ---- a received byte
 

@@ -4,13 +4,12 @@ use Prim.Native.Nat.{ℕ, zero, suc}
 use mathlib.Core.List.{List, [], _∷_, _++_}
 use mathlib.Core.Path.{_≡_}
 use lib.ListN.{replicate}
-use Rattle.machine.specs.Machine.{Events, received, slot, given, run, sent, start}
+use Rattle.machine.specs.Machine.{State, Events, received, slot, given, run, sent, start}
 use Rattle.machine.specs.Promised.{Promised}
 use Rattle.refusal.specs.declared.Verdict.the-variants.{Done}
 use Rattle.fixed.specs.declared.Settings.{Settings}
 use Rattle.units.specs.declared.Measurement.{Measurement}
 use Rattle.line.specs.declared.Line.{Line}
-use Rattle.line.specs.Line.{blank}
 use Rattle.rules.specs.Lens.{measurement, lens}
 use Rattle.rules.specs.Promise.{actBy, replyBy, recordBy}
 use Rattle.port.specs.declared.Port.{Port}
@@ -32,6 +31,10 @@ pub record Held : Type 0 where
   pub port : Port
   pub line : Line
 
+-- seen as a state of the machine
+abbrev pub viewOf : Held → State lens
+viewOf h = view (h .port) (h .line)
+
 abbrev pub after : Held → Call → Held
 after h (receive b) = record { port = receiveOf (h .port) (h .line) b .port; line = receiveOf (h .port) (h .line) b .line }
 after h slots-once = record { port = slotOf (h .port) .port; line = h .line }
@@ -45,7 +48,7 @@ bytes h slots-once = bytesOf (slotOf (h .port) .sent)
 bytes h (measure m) = []
 bytes h (fill n) = runOf n (h .port) .bytes
 
--- how many slots a fill runs: one for each byte, and the idle one, if it ended so
+-- how many slots a fill runs: one for each byte, and the idle one, if it ended so (no slot of a port from a start is refused: `slot-16` in Answers)
 abbrev pub ranBy : Sent → ℕ → ℕ
 ranBy (sent.Byte b) n = suc n
 ranBy sent.Idle n = 1
@@ -76,17 +79,28 @@ eventsAll h [] = []
 eventsAll h (c ∷ cs) = eventsOf h c ++ eventsAll (after h c) cs
 
 -- what a start hands the driver
-abbrev pub begun : Port → Settings → Measurement → Held
-begun old s m = record { port = startOf old s m .port; line = blank }
+abbrev pub begun : Port → Line → Settings → Measurement → Held
+begun old l s m = record { port = startOf old l s m .port; line = startOf old l s m .line }
+
+-- what the driver holds after some calls, from an accepted start and with no restart between
+pub record FromStart (h : Held) : Type 0 where
+  pub old : Port
+  pub old-line : Line
+  pub settings : Settings
+  pub measurement : Measurement
+  pub accepted : startOf old old-line settings measurement .verdict ≡ Done
+  pub calls : List Call
+  pub held : h ≡ afterAll (begun old old-line settings measurement) calls
 
 pub record OfThePort : Type 0 where
   -- the states of the port, call by call, are those of the machine from its start
-  pub states : (old : Port) (s : Settings) (m : Measurement) (cs : List Call) → startOf old s m .verdict ≡ Done →
-      let h = begun old s m in
+  pub states : (old : Port) (l : Line) (s : Settings) (m : Measurement) (cs : List Call) → startOf old l s m .verdict ≡ Done →
+      let h = begun old l s m in
       view (afterAll h cs .port) (afterAll h cs .line) ≡ run (start lens (started s m .source)) (eventsAll h cs)
   -- and the bytes sent are the machine's
-  pub sends : (old : Port) (s : Settings) (m : Measurement) (cs : List Call) → startOf old s m .verdict ≡ Done →
-      let h = begun old s m in
+  pub sends : (old : Port) (l : Line) (s : Settings) (m : Measurement) (cs : List Call) → startOf old l s m .verdict ≡ Done →
+      let h = begun old l s m in
       bytesAll h cs ≡ sent (start lens (started s m .source)) (eventsAll h cs)
   -- of which demand 3 is proved: 156, 233 and 79
-  pub demand3 : (old : Port) (s : Settings) (m : Measurement) → startOf old s m .verdict ≡ Done → Promised lens actBy replyBy recordBy (started s m .source)
+  pub demand3 : (old : Port) (l : Line) (s : Settings) (m : Measurement) → startOf old l s m .verdict ≡ Done →
+      Promised lens actBy replyBy recordBy (started s m .source)

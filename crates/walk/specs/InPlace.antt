@@ -45,5 +45,7 @@ pub record InPlace : Type 0 where
   -- a count past the buffer is answered 16 by both
   pub refused : (p : Port) (l : Line) (b : ℕ) → collected l b .number ≡ 16 → (receiveOf p l b .verdict ≡ Refused refusal.State) × (receiveOf p l b .port ≡ p)
   -- from an accepted start, over every sequence of calls: the states and the bytes of the calls of receive, of which demand 3 is proved
-  pub states : (old : Port) (s : Settings) (m : Measurement) (cs : List Call) → startOf old s m .verdict ≡ Done → allInPlace (begun old s m) cs ≡ afterAll (begun old s m) cs
-  pub sends : (old : Port) (s : Settings) (m : Measurement) (cs : List Call) → startOf old s m .verdict ≡ Done → bytesInPlace (begun old s m) cs ≡ bytesAll (begun old s m) cs
+  pub states : (old : Port) (l : Line) (s : Settings) (m : Measurement) (cs : List Call) → startOf old l s m .verdict ≡ Done →
+      allInPlace (begun old l s m) cs ≡ afterAll (begun old l s m) cs
+  pub sends : (old : Port) (l : Line) (s : Settings) (m : Measurement) (cs : List Call) → startOf old l s m .verdict ≡ Done →
+      bytesInPlace (begun old l s m) cs ≡ bytesAll (begun old l s m) cs

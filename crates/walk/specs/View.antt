@@ -1,6 +1,6 @@
 -- A port and its line seen as a state of the paper's machine.
 use Prim.Native.Nat.{ℕ}
-use mathlib.Core.Bool.{cond}
+use mathlib.Core.Bool.{true, cond}
 use mathlib.Core.List.{List, [], _∷_}
 use mathlib.Core.Option.{Option, none, some}
 use lib.ListN.{take, drop}
@@ -23,6 +23,10 @@ kindOf last.Reply = a-reply
 -- the command that waits, if one does
 abbrev pub waitsOf : Waiting → Option Line
 waitsOf w = cond (w .some) (some (w .line)) none
+
+-- the waiting place with a line in it
+abbrev pub holding : Line → Waiting
+holding l = record { some = true; line = l }
 
 -- the bytes left of the message under way
 abbrev pub leftOf : Message → List ℕ

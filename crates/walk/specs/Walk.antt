@@ -8,7 +8,7 @@ use Rattle.refusal.specs.declared.Verdict.the-variants.{Done}
 use Rattle.fixed.specs.declared.Settings.{Settings}
 use Rattle.units.specs.declared.Measurement.{Measurement}
 use Rattle.line.specs.declared.Line.{Line}
-use Rattle.line.specs.Line.{blank, validLine}
+use Rattle.line.specs.Line.{validLine}
 use Rattle.state.specs.State.{messageLength}
 use Rattle.rules.specs.Lens.{measurement, lens}
 use Rattle.port.specs.declared.Port.{Port}
@@ -22,7 +22,8 @@ pub record Sound (p : Port) : Type 0 where
 
 pub record Walks : Type 0 where
   -- an accepted start is the machine's start
-  pub start-walks : (old : Port) (s : Settings) (m : Measurement) → startOf old s m .verdict ≡ Done → view (startOf old s m .port) blank ≡ start lens (started s m .source)
+  pub start-walks : (old : Port) (l : Line) (s : Settings) (m : Measurement) → startOf old l s m .verdict ≡ Done →
+      view (startOf old l s m .port) (startOf old l s m .line) ≡ start lens (started s m .source)
   -- a slot leaves the machine's next state, and sends its bytes
   pub slot-walks : (p : Port) (l : Line) → Sound p → view (slotOf p .port) l ≡ next (view p l) slot
   pub slot-sends : (p : Port) (l : Line) → Sound p → bytesOf (slotOf p .sent) ≡ sentIn (shows (view p l) slot)

@@ -50,10 +50,10 @@ use Rattle.collector.proofs.line_after as after
 use Rattle.collector.proofs.line_after.Symbol as after-def
 use Rattle.collector.proofs.line_after.Symbol.{name as #collector·line-after}
 use Rattle.collector.proofs.line_after.Met as after-thm
-use Rattle.collector.proofs.answer as answer
-use Rattle.collector.proofs.answer.Symbol as answer-def
-use Rattle.collector.proofs.answer.Symbol.{name as #collector·answer}
-use Rattle.collector.proofs.answer.Met as answer-thm
+use Rattle.collector.proofs.answered as answer
+use Rattle.collector.proofs.answered.Symbol as answer-def
+use Rattle.collector.proofs.answered.Symbol.{name as #collector·answered}
+use Rattle.collector.proofs.answered.Met as answer-thm
 use Rattle.collector.proofs.collect.Key.{name as #collector·collect}
 use Rattle.collector.proofs.collect as collect
 use Rattle.collector.proofs.collect.Statement as stated
@@ -123,7 +123,7 @@ module _ {M : Type 1} (𝓤 : URA M) (H : Heap 𝓤) (A : Atoms 𝓤) (W : Given
       qed W (‵ ftrue ∷ []) ∵ nothing ! $ owned ! u8 (Is u8) (uint-makes 𝓤 H A W w8) n _ (refl, fits) $ fjoin ! $ owned ! L (Is L) (laws.makes line.the-type line′.the-plain 𝓤 H A) h _ is $ fjoin ! $
       move ! (1 ∷ 0 ∷ []) $ join ! $ frame ! $ done !
 
-  module _ (C : Calls 𝓤 H) (Λ : Loops 𝓤 H) (fm : FmC 𝓤 H (W .laws) C) (known-after : Triple 𝓤 (C #collector·line-after) (After 𝓤 H A at-mem run)) (known-answer : Triple 𝓤 (C #collector·answer) (Answer 𝓤 H A at-mem run)) where
+  module _ (C : Calls 𝓤 H) (Λ : Loops 𝓤 H) (fm : FmC 𝓤 H (W .laws) C) (known-after : Triple 𝓤 (C #collector·line-after) (After 𝓤 H A at-mem run)) (known-answer : Triple 𝓤 (C #collector·answered) (Answer 𝓤 H A at-mem run)) where
     walk : ent 𝓤 (onEntry 𝓤 H A collect.signature (κ, tt) (q, tt) x at) (WpFn 𝓤 H C Λ code.function (vptr b o ∷ vint w8 n ∷ []) Post)
     walk =
         qed W ((‵ (flft κ q) ⊛ ‵ ftrue) ∷ ‵ (owns (MutRef (named 0) κ L ∷ u8 ∷ []) x at) ∷ []) ∵ split ! $ move ! (2 ∷ []) $ fsplit ! $ fsplit3 ! $ drop ! $ move ! (0 ∷ 1 ∷ 3 ∷ []) $
@@ -155,7 +155,7 @@ module _ {M : Type 1} (𝓤 : URA M) (H : Heap 𝓤) (A : Atoms 𝓤) (W : Given
         keep ! (0 ∷ 1 ∷ 2 ∷ 3 ∷ []) $ by ! (exits r k w (record { answers = e₂; leaves = e })))))))))))))))))
 
 module _ {M : Type 1} (𝓤 : URA M) (H : Heap 𝓤) (A : Atoms 𝓤) (W : Given 𝓤 H A) (at-mem : Memory → SProp 𝓤) (run : Routine → Fun 𝓤) where
-  collect-walks : (C : Calls 𝓤 H) (Λ : Loops 𝓤 H) → FmC 𝓤 H (W .laws) C → Triple 𝓤 (C #collector·line-after) (After 𝓤 H A at-mem run) → Triple 𝓤 (C #collector·answer) (Answer 𝓤 H A at-mem run)
+  collect-walks : (C : Calls 𝓤 H) (Λ : Loops 𝓤 H) → FmC 𝓤 H (W .laws) C → Triple 𝓤 (C #collector·line-after) (After 𝓤 H A at-mem run) → Triple 𝓤 (C #collector·answered) (Answer 𝓤 H A at-mem run)
       → Walks 𝓤 H A collect.ended stayed (WpFn 𝓤 H C Λ code.function) (collect.clauses 𝓤 H A at-mem run)
   collect-walks C Λ fm known-after known-answer = walked 𝓤 H A collect.ended stayed (collect.clauses 𝓤 H A at-mem run) (WpFn 𝓤 H C Λ code.function) (λ κs. (ptr-vals, (uint-vals w8, tt))) (λ κs. (mut-tells (named 0) (κs .0) L, (uint-tells w8, tt)))
       (λ κs qs bounds a _ are. via 𝓤 _ (fst∗ 𝓤 _ (emp 𝓤)) (walk 𝓤 H A W at-mem run (κs .0) (qs .0) (a .0 .ptr .0) (a .0 .ptr .1) (a .0 .name) (a .0 .now) (a .1 .0) (are .1 .0 .1) C Λ fm known-after known-answer))
@@ -163,7 +163,7 @@ module _ {M : Type 1} (𝓤 : URA M) (H : Heap 𝓤) (A : Atoms 𝓤) (W : Given
   goes : AllGo 𝓤 H A W 1 (collect.signature .params) (collect.ended .kept) stayed
   goes = (goes-ref 𝓤 H A W 1 0 tt (plain (λ _. L)), (goes-none 𝓤 H A W 1 (λ _. u8) yes (λ κs x f. refl), tt))
 
-collect-meets : {M : Type 1} (𝓤 : URA M) (H : Heap 𝓤) (A : Atoms 𝓤) → Given 𝓤 H A → (at-mem : Memory → SProp 𝓤) (run : Routine → Fun 𝓤) (𝓣 : Tables 𝓤 H) → Triple 𝓤 (𝓣 .C #collector·line-after) (After 𝓤 H A at-mem run) → Triple 𝓤 (𝓣 .C #collector·answer) (Answer 𝓤 H A at-mem run)
+collect-meets : {M : Type 1} (𝓤 : URA M) (H : Heap 𝓤) (A : Atoms 𝓤) → Given 𝓤 H A → (at-mem : Memory → SProp 𝓤) (run : Routine → Fun 𝓤) (𝓣 : Tables 𝓤 H) → Triple 𝓤 (𝓣 .C #collector·line-after) (After 𝓤 H A at-mem run) → Triple 𝓤 (𝓣 .C #collector·answered) (Answer 𝓤 H A at-mem run)
     → Meets 𝓤 H A collect.signature (WpFn 𝓤 H (𝓣 .C) (𝓣 .Λ) code.function) (collect.spec 𝓤 H A at-mem run)
 collect-meets 𝓤 H A W at-mem run 𝓣 known-after known-answer =
     walk-meets 𝓤 H A collect.ended stayed W (goes 𝓤 H A W at-mem run) (collect.clauses 𝓤 H A at-mem run) (WpFn 𝓤 H (𝓣 .C) (𝓣 .Λ) code.function) (WpFn-mono 𝓤 H (W .laws) 𝓣 code.function)
@@ -176,4 +176,4 @@ collect-spec 𝓤 H 𝓜 𝓖 𝓡 =
     (tables 𝓤 H 𝓜 𝓡 code.env .C) (tables 𝓤 H 𝓜 𝓡 code.env .Λ) #collector·collect code.function (code.unfolded 𝓤 H 𝓜 𝓡)
     (collect-meets 𝓤 H (𝓖 .A) (givenOf 𝓤 H 𝓜 𝓖) (𝓜 .mem) (𝓡 .run) (tablesOf 𝓤 H 𝓜 (tables 𝓤 H 𝓜 𝓡 code.env))
     (cited 𝓤 H (After 𝓤 H (𝓖 .A) (𝓜 .mem) (𝓡 .run)) 𝓜 𝓡 code.env #collector·line-after after-def.routine code.calls-collector·line-after (after-thm.met 𝓤 H 𝓜 𝓖 𝓡))
-    (cited 𝓤 H (Answer 𝓤 H (𝓖 .A) (𝓜 .mem) (𝓡 .run)) 𝓜 𝓡 code.env #collector·answer answer-def.routine code.calls-collector·answer (answer-thm.met 𝓤 H 𝓜 𝓖 𝓡)))
+    (cited 𝓤 H (Answer 𝓤 H (𝓖 .A) (𝓜 .mem) (𝓡 .run)) 𝓜 𝓡 code.env #collector·answered answer-def.routine code.calls-collector·answered (answer-thm.met 𝓤 H 𝓜 𝓖 𝓡)))

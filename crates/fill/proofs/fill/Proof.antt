@@ -2,7 +2,7 @@
 use Prim.Native.Nat.{ℕ, _+_, _-_}
 use mathlib.Core.Bool.{true}
 use mathlib.Core.List.{List}
-use mathlib.Core.Path.{_≡_, refl, sym, _∙_}
+use mathlib.Core.Path.{_≡_, refl, sym, subst, _∙_}
 use native.Mathlib.Omega.{arith}
 use borrow.Author.Needs.{needs}
 use borrow.Author.Tests.{not-true, not-false}
@@ -12,14 +12,15 @@ use Rattle.laws.specs.Gives.{Gives}
 use Rattle.laws.proofs.Tests.{yes, no}
 use Rattle.refusal.specs.declared.Verdict.the-variants.{Done}
 use Rattle.port.specs.declared.Port.{Port}
-use Rattle.port.specs.Port.{validPort}
+use Rattle.port.specs.Port.{validPort, slotOf}
 use Rattle.fill.specs.Fill.{fillOf, fillLeaves}
-use Rattle.fill.proofs.Laws.{At, Ends, one-sends, begins, as-long, less, onward, stored, stops, full}
+use Rattle.fill.proofs.Laws.{At, Head, Ends, one-sends, chooses, begins, as-long, less, at-head, stored, stops, full}
 use Rattle.fill.proofs.fill.Statement.{statement}
 use Rattle.fill.proofs.fill.Tie as tie
 
+-- of whatever buffer and port the slots before the loop were: so it is of those of the call
 abbrev Inv-loop : tie.InvT-loop
-Inv-loop out₀ q₀ i₀ out q i = At out₀ q₀ out q i
+Inv-loop out₀ q₀ i₀ out q i = (l : List ℕ) (p : Port) → At l p out₀ q₀ i₀ → Head l p out q i
 
 abbrev μ-loop : tie.MeasureT-loop
 μ-loop out₀ q₀ i₀ out q i = length out - i
@@ -45,13 +46,40 @@ returns c =
 valid : (c : tie.Else1 Inv-loop μ-loop) → validPort (c .before .before .before .args .port) ≡ true
 valid c = sym (c .before .is-valid .ensures) ∙ not-false _ (c .if1 .left)
 
-loop-holds : tie.Need-loop-holds Inv-loop μ-loop
-loop-holds c =
+start : (c : tie.Else1 Inv-loop μ-loop) →
     let a = c .before .before .before .args in
-    begins (now (a .out)) (a .port) (valid c)
+    At (now (a .out)) (a .port) (now (a .out)) (a .port) 0
+start c = let a = c .before .before .before .args in begins (now (a .out)) (a .port) (valid c)
 
-advance-requires : tie.Need-advance-requires Inv-loop μ-loop
-advance-requires c κs = c .before .loop .inv .sends .valid
+go-on-requires : tie.Need-go-on-requires Inv-loop μ-loop
+go-on-requires c κs = (valid (c .before), omega arith)
+
+-- the slots before the loop: those of the message under way
+under-way : (c : tie.After-go-on Inv-loop μ-loop) →
+    let a = c .before .before .before .before .before .args in
+    Head (now (a .out)) (a .port) (c .go-on .last .1 .0) (c .go-on .result .port) (c .go-on .result .count)
+under-way c =
+    let a = c .before .before .before .before .before .args in
+    let n = c .go-on .result .count in
+    let all : 0 + n ≡ n = omega arith in
+    subst (Head (now (a .out)) (a .port) _ (c .go-on .result .port)) all (at-head (start (c .before .before)) (c .go-on .ensures))
+
+loop-holds : tie.Need-loop-holds Inv-loop μ-loop
+loop-holds c l p a = record { so-far = a; ended = under-way (c .before .before .before) .ended }
+
+head : (c : tie.At-loop Inv-loop μ-loop) →
+    let a = c .before .before .before .before .before .before .before .before .before .args in
+    Head (now (a .out)) (a .port) (c .loop .out) (c .loop .q) (c .loop .i)
+head c = c .loop .inv _ _ (under-way (c .before .before .before .before) .so-far)
+
+-- the slot that the rules choose in
+slotted : (c : tie.After-choose Inv-loop μ-loop) → c .choose .result ≡ slotOf (c .before .before .loop .q)
+slotted c =
+    let h = head (c .before .before) in
+    c .choose .ensures ∙ chooses _ (h .so-far .sends .valid) (h .ended (c .before .loop-test .taken))
+
+choose-requires : tie.Need-choose-requires Inv-loop μ-loop
+choose-requires c κs = search needs
 
 enum-known-sent : tie.Need-enum-known-sent Inv-loop μ-loop
 enum-known-sent c = search needs
@@ -60,34 +88,41 @@ slice-write-out : tie.Need-slice-write-out Inv-loop μ-loop
 slice-write-out c = search needs
 
 -- once a byte has been stored
-after-byte : (c : tie.After-go-on-arg Inv-loop μ-loop) →
+after-byte : (c : tie.After-go-on-arg2 Inv-loop μ-loop) {l₀ : List ℕ} {p : Port} →
     let g = c .before .before in
     let s = g .before .before .before in
     let l = s .before .before in
-    let a = l .before .before .before .before .args in
-    At (now (a .out)) (a .port) (set (l .loop .out) (l .loop .i) (g .sent .given .0 .0)) (s .advance .result .port) (l .loop .i + 1)
-after-byte c =
+    At l₀ p (l .loop .out) (l .loop .q) (l .loop .i) → At l₀ p (set (l .loop .out) (l .loop .i) (g .sent .given .0 .0)) (s .choose .result .port) (l .loop .i + 1)
+after-byte c v =
     let g = c .before .before in
     let s = g .before .before .before in
-    let t = s .before in
-    let v = t .before .loop .inv in
-    stored v (one-sends _ (s .advance .result) (g .sent .given .0 .0) (v .sends .valid) (s .advance .ensures) (g .sent .given .1)) (t .loop-test .taken)
+    stored v (one-sends _ (s .choose .result) (g .sent .given .0 .0) (v .sends .valid) (slotted s) (g .sent .given .1)) (s .before .loop-test .taken)
+
+-- in the buffer of the call
+byte-stored : (c : tie.After-go-on-arg2 Inv-loop μ-loop) →
+    let g = c .before .before in
+    let s = g .before .before .before in
+    let l = s .before .before in
+    let a = l .before .before .before .before .before .before .before .before .before .args in
+    At (now (a .out)) (a .port) (set (l .loop .out) (l .loop .i) (g .sent .given .0 .0)) (s .choose .result .port) (l .loop .i + 1)
+byte-stored c = after-byte c (head (c .before .before .before .before .before .before .before) .so-far)
 
 add-go-on : tie.Need-add-go-on Inv-loop μ-loop
-add-go-on c = search needs
+add-go-on c =
+    let b = byte-stored c in
+    let z = c .before .before .before .before .before .before .before .before .before .before .before .before .before .before .before .before in
+    record { fits = omega (arith, b .within, z .good .1 .0) }
 
-go-on-requires : tie.Need-go-on-requires Inv-loop μ-loop
-go-on-requires c κs =
-    let b = after-byte c in
+go-on-requires-2 : tie.Need-go-on-requires-2 Inv-loop μ-loop
+go-on-requires-2 c κs =
+    let b = byte-stored c in
     (b .sends .valid, omega (arith, b .within, as-long b))
 
 -- once the rest of the message has been written
-after-rest : (c : tie.After-go-on Inv-loop μ-loop) →
-    let s = c .before .before .before .before .before .before in
-    let l = s .before .before in
-    let a = l .before .before .before .before .args in
-    At (now (a .out)) (a .port) (c .go-on .last .1 .0) (c .go-on .result .port) (l .loop .i + 1 + c .go-on .result .count)
-after-rest c = onward (after-byte (c .before)) (c .go-on .ensures)
+after-rest : (c : tie.After-go-on2 Inv-loop μ-loop) {l₀ : List ℕ} {p : Port} →
+    let l = c .before .before .before .before .before .before .before .before in
+    At l₀ p (l .loop .out) (l .loop .q) (l .loop .i) → Head l₀ p (c .go-on2 .last .1 .0) (c .go-on2 .result .port) (l .loop .i + 1 + c .go-on2 .result .count)
+after-rest c v = at-head (after-byte (c .before) v) (c .go-on2 .ensures)
 
 add-i : tie.Need-add-i Inv-loop μ-loop
 add-i c =
@@ -95,34 +130,39 @@ add-i c =
 
 add-i-2 : tie.Need-add-i-2 Inv-loop μ-loop
 add-i-2 c =
-    let r = after-rest (c .before .before .before .before) in
-    let s = c .before .before .before .before .before .before .before .before .before .before .before .before .before .before .before .before in
-    omega (arith, r .within, s .good .1 .0)
+    let g = c .before .before .before .before in
+    let l = g .before .before .before .before .before .before .before .before in
+    let r = after-rest g (head l .so-far) .so-far in
+    let z = l .before .before .before .before .before .before .before .before .before in
+    omega (arith, r .within, z .good .1 .0)
 
 loop-less : tie.Need-loop-less Inv-loop μ-loop
 loop-less c =
     let g = c .before .before .before .before in
     let l = g .before .before .before .before .before .before .before .before in
-    less (l .loop .inv) (after-rest g) (omega arith)
+    let v = head l .so-far in
+    less v (after-rest g v .so-far) (omega arith)
 
 loop-again : tie.Need-loop-again Inv-loop μ-loop
-loop-again c = after-rest (c .before .before .before .before)
+loop-again c l₀ p a =
+    let g = c .before .before .before .before in
+    let l = g .before .before .before .before .before .before .before .before in
+    after-rest g (l .loop .inv l₀ p a .so-far)
 
 same-length : tie.Need-same-length Inv-loop μ-loop
-same-length c = as-long (c .before .before .before .before .loop .inv)
+same-length c = as-long (head (c .before .before .before .before) .so-far)
 
 returns-2 : tie.Need-returns-2 Inv-loop μ-loop
 returns-2 c =
     let s = c .before .before in
     let t = s .before in
-    let l = t .before in
-    done (valid (l .before)) (stops (l .loop .inv) (t .loop-test .taken) (s .advance .result) (s .advance .ensures) (c .match .keys2))
+    done (valid (t .before .before .before .before .before .before .before)) (stops (head (t .before) .so-far) (t .loop-test .taken) (s .choose .result) (slotted s) (c .match .keys2))
 
 same-length-2 : tie.Need-same-length-2 Inv-loop μ-loop
-same-length-2 c = as-long (c .before .loop .inv)
+same-length-2 c = as-long (head (c .before) .so-far)
 
 returns-3 : tie.Need-returns-3 Inv-loop μ-loop
-returns-3 c = done (valid (c .before .before)) (full (c .before .loop .inv) (c .loop-test .left))
+returns-3 c = done (valid (c .before .before .before .before .before .before .before)) (full (head (c .before) .so-far) (c .loop-test .left))
 
 pub fill-spec : {M : Type 1} → statement M
 fill-spec =
@@ -132,12 +172,13 @@ fill-spec =
     μ-loop
     is-valid-requires
     returns
+    go-on-requires
     loop-holds
-    advance-requires
+    choose-requires
     enum-known-sent
     slice-write-out
     add-go-on
-    go-on-requires
+    go-on-requires-2
     add-i
     add-i-2
     loop-less

@@ -37,6 +37,13 @@ least-right a b =
     (λ y. let h = ltb-true a b y in subst (λ (n : ℕ). n ≤ b) (sym (cond-yes a b y)) (omega arith))
     (λ n. subst (λ (n : ℕ). n ≤ b) (sym (cond-no a b n)) (omega arith))
 
+-- what is not the second is the first
+least-first : (a b : ℕ) → leastOf a b < b → leastOf a b ≡ a
+least-first a b h =
+    told (ltb a b)
+    (λ y. cond-yes a b y)
+    (λ n. let e : leastOf a b ≡ b = cond-no a b n in absurd (omega arith))
+
 -- nothing is written
 over-none : (d : List ℕ) (a : ℕ) → a ≤ length d → d ≡ over d a []
 over-none d a h =
@@ -69,6 +76,19 @@ in-room c =
     let e : c .least .result ≤ length (now (s .args .out)) - s .args .from = subst (λ (n : ℕ). n ≤ length (now (s .args .out)) - s .args .from) (sym (c .least .ensures)) k in
     omega arith
 
+-- where there is room left, it is the whole of the message
+whole : (c : tie.After-least) →
+    let a = c .before .before .before .before .args in
+    a .from + c .least .result < length (now (a .out)) → a .port .message .at + c .least .result ≡ a .port .message .len
+whole c h =
+    let s = c .before .before .before .before in
+    let m = s .args .port .message in
+    let room = length (now (s .args .out)) - s .args .from in
+    let low = placed (s .args .port) (s .pre .0) in
+    let e : c .least .result ≡ leastOf (m .len - m .at) room = c .least .ensures in
+    let first : leastOf (m .len - m .at) room ≡ m .len - m .at = least-first (m .len - m .at) room (omega arith) in
+    omega arith
+
 sub-least : tie.Need-sub-least
 sub-least c = placed (c .before .before .before .args .port) (c .before .before .before .pre .0)
 
@@ -81,7 +101,14 @@ least-requires c κs = search needs
 returns : tie.Need-returns
 returns c =
     let s = c .before .before .before .before .before in
-    record { sent = []; sends = none-sends (s .args .port) (s .pre .0); fits = omega (arith, s .pre .1); leaves = over-none (now (s .args .out)) (s .args .from) (s .pre .1) }
+    let none : c .before .least .result ≡ 0 = c .if1 .taken in
+    record {
+      sent = [];
+      sends = none-sends (s .args .port) (s .pre .0);
+      fits = omega (arith, s .pre .1);
+      leaves = over-none (now (s .args .out)) (s .args .from) (s .pre .1);
+      ended = λ h. let e = whole (c .before) (omega arith) in omega arith;
+    }
 
 add-end : tie.Need-add-end
 add-end c =
@@ -124,6 +151,9 @@ returns-2 c =
       sends = subst (λ (t : Port). Sends p n (take n (drop at (p .message .bytes))) t) (sym (c .sent-up-to .ensures)) (goes-on n p some (s .pre .0) (long s) (in-message l));
       fits = in-room l;
       leaves = c .before .before .before .put-text .ensures ∙ ap (λ (k : ℕ). over (now (s .args .out)) (s .args .from) (take k (drop at (p .message .bytes)))) same;
+      ended = λ h.
+          let e = c .sent-up-to .ensures in
+          ap (λ (t : Port). t .message .at) e ∙ whole l h ∙ sym (ap (λ (t : Port). t .message .len) e);
     }
 
 pub go-on-spec : {M : Type 1} → statement M

@@ -18,6 +18,9 @@ returns c = writes-wrong fixedForm Setting _ _ _ _ (c .before .lowest-item .ensu
 sendable : (c : tie.Else1) → fixedForm .lowest (c .before .before .before .args .f) ≡ 0
 sendable c = fixed-lowest _ ∙ sym (c .before .lowest-item .ensures) ∙ c .if1 .left
 
+cast-room-for : tie.Need-cast-room-for
+cast-room-for c = search needs
+
 room-for-requires : tie.Need-room-for-requires
 room-for-requires c κs = search needs
 
@@ -56,6 +59,7 @@ write-fixed-spec =
     (tie.spec
     lowest-item-requires
     returns
+    cast-room-for
     room-for-requires
     enum-known-answer
     enum-told

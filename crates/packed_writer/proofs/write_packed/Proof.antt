@@ -18,6 +18,9 @@ returns c = writes-wrong packedForm Field _ _ _ _ (c .before .lowest-field .ensu
 sendable : (c : tie.Else1) → packedForm .lowest (c .before .before .before .args .r) ≡ 0
 sendable c = packed-lowest _ ∙ sym (c .before .lowest-field .ensures) ∙ c .if1 .left
 
+cast-room-for : tie.Need-cast-room-for
+cast-room-for c = search needs
+
 room-for-requires : tie.Need-room-for-requires
 room-for-requires c κs = search needs
 
@@ -56,6 +59,7 @@ write-packed-spec =
     (tie.spec
     lowest-field-requires
     returns
+    cast-room-for
     room-for-requires
     enum-known-answer
     enum-told

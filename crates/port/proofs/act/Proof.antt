@@ -1,6 +1,5 @@
 -- `port::act` meets its contract: rule 2, by whether the command has a reply. Assumes nothing.
 use Prim.Native.Nat.{ℕ}
-use mathlib.Core.Bool.{true}
 use mathlib.Core.List.{List, [], _∷_}
 use mathlib.Core.Path.{_≡_, refl, sym, ap, _∙_}
 use native.Mathlib.Omega.{arith}
@@ -8,9 +7,8 @@ use lib.ListN.{length}
 use Rattle.state.specs.declared.Last.{Last}
 use Rattle.state.specs.declared.Source.{Source}
 use Rattle.state.specs.declared.Waiting.{Waiting}
-use Rattle.state.specs.State.{unsent, validSource}
+use Rattle.state.specs.State.{unsent}
 use Rattle.rules.specs.Does.{does, counts}
-use Rattle.rules.proofs.Kept.{does-valid}
 use Rattle.reply.specs.declared.Acted.{Acted}
 use Rattle.reply.specs.Reply.{actedOf}
 use Rattle.port.specs.declared.Port.{Port}
@@ -52,21 +50,14 @@ module _ (p : Port) (a : Acted) (e : a ≡ actedOf (does (p .source) (p .waiting
       ∙ (λ i. begunWith (e i .source) (e i .message) (g i) (f i))
       ∙ sym (some p (d .source) (d .reply) _ (λ z. n (ap (λ (x : Acted). x .message .len) e ∙ z)))
 
-  -- the source after the command is valid too
-  after-valid : validSource (p .source) ≡ true → validSource (a .source) ≡ true
-  after-valid v = ap (λ (x : Acted). validSource (x .source)) e ∙ does-valid (p .source) (p .waiting .line) v
-
 act-requires : tie.Need-act-requires
-act-requires c κs = c .before .before .before .pre
+act-requires c κs = search needs
 
 nobody-waits-requires : tie.Need-nobody-waits-requires
 nobody-waits-requires c κs = search needs
 
 rest-requires : tie.Need-rest-requires
-rest-requires c κs =
-    let a = c .before .before .before .before .before in
-    let s = a .before .before .before .before in
-    after-valid (s .args .p) (a .act .result) (a .act .ensures) (s .pre)
+rest-requires c κs = search needs
 
 returns : tie.Need-returns
 returns c =

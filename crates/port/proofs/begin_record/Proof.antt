@@ -8,7 +8,7 @@ use Rattle.port.proofs.begin_record.Statement.{statement}
 use Rattle.port.proofs.begin_record.Tie as tie
 
 record-message-requires : tie.Need-record-message-requires
-record-message-requires c κs = c .before .before .pre
+record-message-requires c κs = search needs
 
 begin-requires : tie.Need-begin-requires
 begin-requires c κs = search needs

@@ -21,14 +21,14 @@ owed : (c : tie.After-is-reply) →
 owed c = ap₂ _&&_ (c .before .is-continuous .ensures) (c .is-reply .ensures)
 
 begin-record-requires : tie.Need-begin-record-requires
-begin-record-requires c κs = c .before .before .before .before .pre
+begin-record-requires c κs = search needs
 
 returns : tie.Need-returns
 unfolding chooseOf
 returns c = yes _ (sym (owed (c .before .before)) ∙ c .before .if1 .taken) (c .begin-record .ensures)
 
 act-requires : tie.Need-act-requires
-act-requires c κs = c .before .before .before .before .before .before .pre
+act-requires c κs = search needs
 
 returns-2 : tie.Need-returns-2
 unfolding chooseOf
@@ -38,7 +38,7 @@ returns-2 c =
     no _ (sym (owed (e .before)) ∙ e .if1 .left) (yes _ (w .if2 .taken) (c .act .ensures))
 
 rest-requires : tie.Need-rest-requires
-rest-requires c κs = c .before .before .before .before .before .before .pre
+rest-requires c κs = search needs
 
 returns-3 : tie.Need-returns-3
 unfolding chooseOf

@@ -10,7 +10,7 @@ is-continuous-requires : tie.Need-is-continuous-requires
 is-continuous-requires c κs = search needs
 
 begin-record-requires : tie.Need-begin-record-requires
-begin-record-requires c κs = c .before .before .before .pre
+begin-record-requires c κs = search needs
 
 returns : tie.Need-returns
 unfolding restOf

@@ -7,7 +7,6 @@ use Rattle.line.proofs.Laws.{command-range}
 use Rattle.state.specs.declared.State.{State}
 use Rattle.rules.specs.Does.{readies, runs, doesIn, does}
 use Rattle.reply.specs.Reply.{actedOf}
-use Rattle.reply.proofs.Laws.{measurement-done}
 use borrow.Author.Needs.{needs}
 use Rattle.reply.proofs.act.Statement.{statement}
 use Rattle.reply.proofs.act.Tie as tie
@@ -27,7 +26,7 @@ enum-told-2 c = search needs
 running-requires : tie.Need-running-requires
 running-requires c κs =
     let s = c .before .before .before .before in
-    (measurement-done (s .args .source) (s .pre), subst InRange (sym (c .before .before .before .command .ensures)) (command-range (s .args .line)))
+    subst InRange (sym (c .before .before .before .command .ensures)) (command-range (s .args .line))
 
 returns : tie.Need-returns
 unfolding does doesIn

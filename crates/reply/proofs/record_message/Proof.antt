@@ -1,11 +1,11 @@
--- `reply::record_message` meets its contract: the measurement is an accepted one. Assumes nothing.
+-- `reply::record_message` meets its contract: the record in the form that is sent. Assumes nothing.
 use Rattle.rules.specs.Does.{recordMessage}
-use Rattle.reply.proofs.Laws.{measurement-done}
+use borrow.Author.Needs.{needs}
 use Rattle.reply.proofs.record_message.Statement.{statement}
 use Rattle.reply.proofs.record_message.Tie as tie
 
 record-in-requires : tie.Need-record-in-requires
-record-in-requires c κs = measurement-done (c .before .args .source) (c .before .pre)
+record-in-requires c κs = search needs
 
 returns : tie.Need-returns
 unfolding recordMessage

@@ -52,7 +52,7 @@ enum-known-command : tie.Need-enum-known-command
 enum-known-command c = search needs
 
 rate-requires : tie.Need-rate-requires
-rate-requires c κs = c .before .before .before .pre .1 .rate _ (c .before .command .given .1)
+rate-requires c κs = c .before .before .before .pre .rate _ (c .before .command .given .1)
 
 enum-told-7 : tie.Need-enum-told-7
 enum-told-7 c = search needs
@@ -100,7 +100,7 @@ enum-known-command-2 : tie.Need-enum-known-command-2
 enum-known-command-2 c = search needs
 
 film-requires-2 : tie.Need-film-requires-2
-film-requires-2 c κs = c .before .before .before .pre .1 .film _ (c .before .command2 .given .1)
+film-requires-2 c κs = c .before .before .before .pre .film _ (c .before .command2 .given .1)
 
 enum-told-14 : tie.Need-enum-told-14
 enum-told-14 c = search needs

@@ -3,12 +3,13 @@ use Prim.Native.Nat.{ℕ}
 use mathlib.Core.List.{List}
 use mathlib.Core.Path.{_≡_, sym, ap, _∙_}
 use lib.ListN.{take, drop}
-use Rattle.codec.specs.Codec.{got, fieldSays, readTagged}
-use Rattle.codec.proofs.Fields.{gave, refused, wrong-first, wrong-later, right-both}
+use Rattle.codec.specs.Codec.{got, fieldSays, readTagged, readWhole}
+use Rattle.codec.proofs.Fields.{gave, refused, wrong-first, wrong-later, right-both, parsed-other}
 use Rattle.pointed.specs.Pointed.{readPointed}
 use Rattle.pupil.specs.Pupil.{readPupilText, pupilSays}
+use Rattle.record.specs.Forms.{backText}
 use Rattle.gather.specs.Gather.{threeSays}
-use Rattle.text_reader.proofs.Parts.{back-parts}
+use Rattle.text_reader.proofs.Parts.{back-width, back-parts}
 use mir.Syntax.{w32}
 use mir.Val.{toZ, ofZ}
 use mir.Facts.{toZ-ofZ}
@@ -17,18 +18,25 @@ use Rattle.text_reader.proofs.read_back.Statement.{statement}
 use Rattle.text_reader.proofs.read_back.Tie as tie
 
 -- the message, and what each field gave
+abbrev S : tie.Else1 → List ℕ
+S e = e .before .before .args .s .now
+
 abbrev S1 : tie.After-view → List ℕ
-S1 d = d .before .before .before .before .before .args .s .now
+S1 d = S (d .before .before .before .before)
 
 abbrev S2 : tie.After-pupil → List ℕ
 S2 d = S1 (d .before .before .before .before .before)
 
-view-found : (d : tie.After-view) → fieldSays 9 (readTagged 86 (readPointed 4095) (take 6 (S1 d))) ≡ got (d .view .given .0 .0)
+view-found : (d : tie.After-view) → fieldSays 9 (readWhole 6 (readTagged 86 (readPointed 4095)) (take 6 (S1 d))) ≡ got (d .view .given .0 .0)
 view-found d = gave 9 (d .before .before .read-view .ensures) (d .view .given .1)
 
 pupil-found : (d : tie.After-pupil) → pupilSays (readPupilText (take 5 (drop 6 (S2 d)))) ≡ got (d .pupil .given .0 .0)
 unfolding pupilSays
 pupil-found d = ap pupilSays (sym (d .before .before .read-pupil-text .ensures) ∙ d .pupil .given .1)
+
+returns : tie.Need-returns
+unfolding threeSays
+returns c = sym (parsed-other backText 9 back-width _ (c .if1 .taken))
 
 sub-read-view : tie.Need-sub-read-view
 sub-read-view c = search needs
@@ -48,13 +56,13 @@ enum-known-view c = search needs
 enum-told : tie.Need-enum-told
 enum-told c = search needs
 
-returns : tie.Need-returns
+returns-2 : tie.Need-returns-2
 unfolding threeSays pupilSays
-returns c =
+returns-2 c =
     let r = c .before .before in
-    let b = r .before .before .before in
+    let b = r .before .before in
     sym
-    (back-parts (b .args .s .now) (b .pre)
+    (back-parts (S b) (b .if1 .left)
     ∙ wrong-first _ (refused 9 (r .read-view .ensures) (c .enum-told .given .1)))
 
 sub-read-pupil-text : tie.Need-sub-read-pupil-text
@@ -75,14 +83,14 @@ enum-known-pupil c = search needs
 enum-told-2 : tie.Need-enum-told-2
 enum-told-2 c = search needs
 
-returns-2 : tie.Need-returns-2
+returns-3 : tie.Need-returns-3
 unfolding threeSays pupilSays
-returns-2 c =
+returns-3 c =
     let r = c .before .before in
     let d1 = r .before .before .before in
-    let b = d1 .before .before .before .before .before in
+    let b = d1 .before .before .before .before in
     sym
-    (back-parts (b .args .s .now) (b .pre)
+    (back-parts (S b) (b .if1 .left)
     ∙ wrong-later (view-found d1) (wrong-first _ (ap pupilSays (sym (r .read-pupil-text .ensures) ∙ c .enum-told2 .given .1))))
 
 sub-read-tagged : tie.Need-sub-read-tagged
@@ -103,52 +111,53 @@ enum-known-zoom c = search needs
 enum-told-3 : tie.Need-enum-told-3
 enum-told-3 c = search needs
 
-returns-3 : tie.Need-returns-3
-unfolding threeSays pupilSays
-returns-3 c =
-    let r = c .before .before in
-    let d2 = r .before .before .before in
-    let d1 = d2 .before .before .before .before .before in
-    let b = d1 .before .before .before .before .before in
-    sym
-    (back-parts (b .args .s .now) (b .pre)
-    ∙ wrong-later (view-found d1) (wrong-later (pupil-found d2) (refused 11 (r .read-tagged .ensures) (c .enum-told3 .given .1))))
-
 returns-4 : tie.Need-returns-4
 unfolding threeSays pupilSays
 returns-4 c =
+    let r = c .before .before in
+    let d2 = r .before .before .before in
+    let d1 = d2 .before .before .before .before .before in
+    let b = d1 .before .before .before .before in
+    sym
+    (back-parts (S b) (b .if1 .left)
+    ∙ wrong-later (view-found d1) (wrong-later (pupil-found d2) (refused 11 (r .read-tagged .ensures) (c .enum-told3 .given .1))))
+
+returns-5 : tie.Need-returns-5
+unfolding threeSays pupilSays
+returns-5 c =
     let d3 = c .before in
     let d2 = d3 .before .before .before .before .before in
     let d1 = d2 .before .before .before .before .before in
-    let b = d1 .before .before .before .before .before in
+    let b = d1 .before .before .before .before in
     let same : toZ w32 (ofZ w32 (d2 .pupil .given .0 .0)) ≡ d2 .pupil .given .0 .0 = toZ-ofZ (search needs) in
     sym
-    (back-parts (b .args .s .now) (b .pre)
+    (back-parts (S b) (b .if1 .left)
     ∙ right-both (view-found d1) (right-both (pupil-found d2 ∙ ap got (sym same)) (gave 11 (d3 .before .before .read-tagged .ensures) (d3 .zoom .given .1))))
 
 pub read-back-spec : {M : Type 1} → statement M
 read-back-spec =
     tie.close
     (tie.spec
+    returns
     sub-read-view
     part-read-view-start
     part-read-view-end
     read-view-requires
     enum-known-view
     enum-told
-    returns
+    returns-2
     sub-read-pupil-text
     part-read-pupil-text-start
     part-read-pupil-text-end
     read-pupil-text-requires
     enum-known-pupil
     enum-told-2
-    returns-2
+    returns-3
     sub-read-tagged
     part-read-tagged-start
     part-read-tagged-end
     read-tagged-requires
     enum-known-zoom
     enum-told-3
-    returns-3
-    returns-4)
+    returns-4
+    returns-5)

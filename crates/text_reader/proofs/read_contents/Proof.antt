@@ -1,15 +1,29 @@
--- `text_reader::read_contents` meets its contract: the three groups, then the serial. Assumes nothing.
-use mathlib.Core.Path.{ap, _∙_}
+-- `text_reader::read_contents` meets its contract: its length, the three groups, then the serial. Assumes nothing.
+use mathlib.Core.Path.{sym, ap, _∙_}
+use Rattle.laws.proofs.Tests.{at}
 use Rattle.codec.specs.Codec.{Got}
+use Rattle.codec.proofs.Fields.{parsed-whole, parsed-other}
 use Rattle.frame.specs.Message.{found}
 use Rattle.record.specs.Record.{recordRead}
 use Rattle.record.specs.Forms.{frontText, middleText, backText, textForm}
 use Rattle.record.specs.declared.Record.{Record}
+use Rattle.record.specs.declared.RecordRead.{RecordRead}
+use Rattle.record.proofs.Exact.{text-form-width}
 use Rattle.gather.proofs.Laws.{record-found}
 use Rattle.text_reader.proofs.Parts.{front-width, middle-width, back-width}
 use borrow.Author.Needs.{needs}
 use Rattle.text_reader.proofs.read_contents.Statement.{statement}
 use Rattle.text_reader.proofs.read_contents.Tie as tie
+
+abbrev read : Got Record → RecordRead
+read q = recordRead (found q)
+
+refused-record-requires : tie.Need-refused-record-requires
+refused-record-requires c κs = search needs
+
+returns : tie.Need-returns
+unfolding found
+returns c = at read (parsed-other textForm 1 text-form-width _ (c .before .if1 .taken)) (c .refused-record .ensures)
 
 sub-read-front : tie.Need-sub-read-front
 sub-read-front c = search needs
@@ -62,22 +76,26 @@ part-with-serial-end c = search needs
 with-serial-requires : tie.Need-with-serial-requires
 with-serial-requires c κs = search needs
 
-returns : tie.Need-returns
+returns-2 : tie.Need-returns-2
 unfolding textForm
-returns c =
+returns-2 c =
     let g = c .before .before in
     let b = g .before in
     let m = b .before .before in
     let f = m .before .before in
-    let a = f .before .before .before in
+    let e = f .before .before in
+    let s = e .before .before .args .s .now in
     c .with-serial .ensures
-    ∙ ap (λ (q : Got Record). recordRead (found q))
-    (record-found frontText middleText backText 19 29 16 front-width middle-width back-width (a .args .s .now) (a .pre) _ (f .read-front .ensures) (m .read-middle .ensures) (b .read-back .ensures) (g .gather .ensures))
+    ∙ ap read
+    (record-found frontText middleText backText 19 29 16 front-width middle-width back-width s (e .if1 .left) _ (f .read-front .ensures) (m .read-middle .ensures) (b .read-back .ensures) (g .gather .ensures)
+    ∙ sym (parsed-whole textForm 1 text-form-width s (e .if1 .left)))
 
 pub read-contents-spec : {M : Type 1} → statement M
 read-contents-spec =
     tie.close
     (tie.spec
+    refused-record-requires
+    returns
     sub-read-front
     part-read-front-start
     part-read-front-end
@@ -95,4 +113,4 @@ read-contents-spec =
     part-with-serial-start
     part-with-serial-end
     with-serial-requires
-    returns)
+    returns-2)

@@ -1,16 +1,25 @@
--- `text_reader::read_view` meets its contract: the tag, then the number behind it. Assumes nothing.
+-- `text_reader::read_view` meets its contract: its length, the tag, then the number behind it. Assumes nothing.
+use mathlib.Core.Path.{refl}
 use native.Mathlib.Omega.{arith}
+use borrow.Author.Tests.{eq-eqb, ne-eqb}
+use Rattle.laws.proofs.Tests.{yes, no}
+use Rattle.codec.specs.Codec.{readWhole}
 use Rattle.codec.proofs.Fields.{untagged, behind-tag}
 use Rattle.pointed.specs.Pointed.{readPointed}
 use borrow.Author.Needs.{needs}
 use Rattle.text_reader.proofs.read_view.Statement.{statement}
 use Rattle.text_reader.proofs.read_view.Tie as tie
 
-shared-slice-read-if1 : tie.Need-shared-slice-read-if1
-shared-slice-read-if1 c = search needs
-
 returns : tie.Need-returns
-returns c = untagged 86 (readPointed 4095) _ (c .if1 .taken)
+unfolding readWhole
+returns c = no _ (ne-eqb _ _ (c .if1 .taken)) refl
+
+shared-slice-read-if2 : tie.Need-shared-slice-read-if2
+shared-slice-read-if2 c = search needs
+
+returns-2 : tie.Need-returns-2
+unfolding readWhole
+returns-2 c = yes _ (eq-eqb _ _ (c .before .before .if1 .left)) (untagged 86 (readPointed 4095) _ (c .if2 .taken))
 
 sub-read-pointed : tie.Need-sub-read-pointed
 sub-read-pointed c = search needs
@@ -24,20 +33,22 @@ part-read-pointed-end c = search needs
 read-pointed-requires : tie.Need-read-pointed-requires
 read-pointed-requires c κs = search needs
 
-returns-2 : tie.Need-returns-2
-returns-2 c =
+returns-3 : tie.Need-returns-3
+unfolding readWhole
+returns-3 c =
     let e = c .before .before in
-    let b = e .before .before .before in
-    behind-tag 86 (readPointed 4095) _ (omega (arith, b .pre)) (e .if1 .left) (c .read-pointed .ensures)
+    let l = e .before .before .if1 .left in
+    yes _ (eq-eqb _ _ l) (behind-tag 86 (readPointed 4095) _ (omega (arith, l)) (e .if2 .left) (c .read-pointed .ensures))
 
 pub read-view-spec : {M : Type 1} → statement M
 read-view-spec =
     tie.close
     (tie.spec
-    shared-slice-read-if1
     returns
+    shared-slice-read-if2
+    returns-2
     sub-read-pointed
     part-read-pointed-start
     part-read-pointed-end
     read-pointed-requires
-    returns-2)
+    returns-3)

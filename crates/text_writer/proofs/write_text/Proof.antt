@@ -18,6 +18,9 @@ returns c = writes-wrong textForm Field _ _ _ _ (c .before .lowest-field .ensure
 sendable : (c : tie.Else1) → textForm .lowest (c .before .before .before .args .r) ≡ 0
 sendable c = text-lowest _ ∙ sym (c .before .lowest-field .ensures) ∙ c .if1 .left
 
+cast-room-for : tie.Need-cast-room-for
+cast-room-for c = search needs
+
 room-for-requires : tie.Need-room-for-requires
 room-for-requires c κs = search needs
 
@@ -56,6 +59,7 @@ write-text-spec =
     (tie.spec
     lowest-field-requires
     returns
+    cast-room-for
     room-for-requires
     enum-known-answer
     enum-told

@@ -1,14 +1,14 @@
--- `units::record_of` meets its contract: an accepted measurement's figures are in range. Assumes nothing.
+-- `units::record_of` meets its contract: the figures are what the call answers. Assumes nothing.
 use mathlib.Core.Path.{ap}
+use borrow.Author.Needs.{needs}
 use Rattle.record.specs.declared.Figures.{Figures}
 use Rattle.record.specs.declared.Record.{Record}
 use Rattle.units.specs.Measurement.{recordIn}
-use Rattle.units.proofs.Ranges.{accepted-told}
 use Rattle.units.proofs.record_of.Statement.{statement}
 use Rattle.units.proofs.record_of.Tie as tie
 
 figures-in-requires : tie.Need-figures-in-requires
-figures-in-requires c κs = accepted-told _ (c .before .pre) .figures
+figures-in-requires c κs = search needs
 
 returns : tie.Need-returns
 unfolding recordIn

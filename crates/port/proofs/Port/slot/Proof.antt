@@ -1,9 +1,9 @@
--- `Port::slot` meets its contract: 16, the message under way, or another slot of a valid port. Assumes nothing.
+-- `Port::slot` meets its contract: 16, the message under way, then the rules. Assumes nothing.
 use mathlib.Core.Bool.{true}
 use mathlib.Core.Path.{_≡_, refl, sym, _∙_}
 use native.Mathlib.Omega.{arith}
 use borrow.Author.Needs.{needs}
-use borrow.Author.Tests.{not-true, not-false, lt-ltb}
+use borrow.Author.Tests.{not-true, not-false, lt-ltb, le-ltb}
 use Rattle.laws.proofs.Tests.{yes, no}
 use Rattle.port.specs.Port.{validPort, slotOf}
 use Rattle.port.proofs.Valid.{message-valid, message-low}
@@ -31,11 +31,12 @@ returns-2 : tie.Need-returns-2
 unfolding slotOf
 returns-2 c = yes _ (valid (c .before .before .before)) (yes _ (lt-ltb _ _ (c .before .if2 .taken)) (c .send-from .ensures))
 
-advance-requires : tie.Need-advance-requires
-advance-requires c κs = valid (c .before .before)
+choose-requires : tie.Need-choose-requires
+choose-requires c κs = search needs
 
 returns-3 : tie.Need-returns-3
-returns-3 c = c .advance .ensures
+unfolding slotOf
+returns-3 c = yes _ (valid (c .before .before .before)) (no _ (le-ltb _ _ (c .before .if2 .left)) (c .choose .ensures))
 
 pub slot-spec : {M : Type 1} → statement M
-slot-spec = tie.close (tie.spec is-valid-requires returns send-from-requires returns-2 advance-requires returns-3)
+slot-spec = tie.close (tie.spec is-valid-requires returns send-from-requires returns-2 choose-requires returns-3)
