@@ -5,11 +5,13 @@
 //! codecs count    runs each entry once on each input in range, to be counted; prints nothing
 
 mod heron;
+mod inputs;
 mod plain;
 #[allow(dead_code)] // not every kind of number is asked for here
 #[path = "../tests/host/random.rs"]
 mod random;
 
+use inputs::{black_box, median, record, text};
 use plain::{Fields, Fixed, Refusal};
 use random::Random;
 use std::process::exit;
@@ -22,12 +24,6 @@ const ROUND: Duration = Duration::from_millis(4);
 const ROOM: usize = 128;
 
 // ---- inputs
-
-struct Record {
-    fields: Fields,
-    serial: [u8; 9],
-    with_sum: bool,
-}
 
 struct Data {
     serial: [u8; 9],
@@ -57,22 +53,6 @@ struct Number {
     n: i32,
     unit: u8,
     wanted: u8,
-}
-
-fn text<const N: usize>(random: &mut Random) -> [u8; N] {
-    std::array::from_fn(|_| random.between(0x20, 0x7E) as u8)
-}
-
-fn record(random: &mut Random) -> Record {
-    let highest = [9_999_999, 4095, 99, 9, 1023, 9_999_999, 9_999_999, 9_999_999, 4095, 999, 1000];
-    let mut fields = highest.map(|high| random.between(0, high) as i32);
-    if random.flag() {
-        fields[2] = 10 * random.between(10, 25) as i32;
-    }
-    if random.flag() {
-        fields[9] = -fields[9];
-    }
-    Record { fields, serial: text(random), with_sum: random.flag() }
 }
 
 fn data(random: &mut Random) -> Data {
@@ -163,11 +143,6 @@ enum Mode {
     Count,
 }
 
-/// A value that the compiler must make, and knows nothing of. (`std::hint::black_box` is not in every rustc that builds this.)
-fn black_box<T: Copy>(value: T) -> T {
-    unsafe { std::ptr::read_volatile(&value) }
-}
-
 /// Nanoseconds a call over the inputs, gone through `turns` times.
 fn timed<T>(inputs: &[T], turns: usize, out: &mut [u8; ROOM], entry: &impl Fn(&T, &mut [u8]) -> Outcome) -> f64 {
     let start = Instant::now();
@@ -177,11 +152,6 @@ fn timed<T>(inputs: &[T], turns: usize, out: &mut [u8; ROOM], entry: &impl Fn(&T
         }
     }
     start.elapsed().as_secs_f64() * 1e9 / (turns * inputs.len()) as f64
-}
-
-fn median(mut figures: Vec<f64>) -> f64 {
-    figures.sort_by(f64::total_cmp);
-    figures[figures.len() / 2]
 }
 
 fn entry<T>(

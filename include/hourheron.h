@@ -1,12 +1,14 @@
 /* hourheron.h: the messages of a Cooke /i lens for a C host. C99 and C++11.
  *
  * Writers and readers of the text record (D), the packed record (Kd) and the fixed data (N), the
- * conversion between 0.1 inch and 1 mm, the checksum, and the collector of a received line. They are
- * proved in Rattle: each takes any input, and a reader accepts exactly the messages that its writer writes.
+ * conversion between 0.1 inch and 1 mm, the checksum, the collector of a received line; for the camera
+ * side the cutter of a stream and the recorder. They are proved in Rattle: each takes any input, and a reader
+ * accepts exactly the messages that its writer writes.
  *
- * Every function answers by value with a number: 0 for done, else a refusal (enum heron_refusal). A
- * refusal writes to no memory of yours, and what does not come with an answer is 0. No function keeps
- * anything between calls or allocates, so any thread may call any of them at any time.
+ * Every function but a recorder's start answers by value with a number: 0 for done, else a refusal (enum
+ * heron_refusal). A refusal writes to no memory that is lent for output, and what does not come with an answer
+ * is 0. No function keeps anything between calls or allocates, so any thread may call any of them at any time;
+ * a line, a cutter or a recorder that you keep is for one thread at a time.
  *
  * Memory is handed over as a pointer and a length in bytes. With length 0 the pointer may be null and
  * nothing is read or written through it. With another length it must be valid for that many bytes, to
@@ -23,7 +25,7 @@
 #include <stdint.h>
 #include <string.h>
 
-#define HOURHERON_VERSION "0.1.0"
+#define HOURHERON_VERSION "0.2.0"
 
 /* ---- lengths in bytes */
 
@@ -50,6 +52,12 @@
 /* Of a received line: the bytes that it keeps. */
 #define HERON_LINE_LEN 64
 
+/* Of a message in a stream: the bytes that a cutter holds, LF CR included. */
+#define HERON_CUTTER_LEN 160
+
+/* Of what a recorder has to send. */
+#define HERON_SEND_LEN 2
+
 /* ---- refusals */
 
 /* The numbers, with what is in `value` beside each. 7 is the port's: no function below answers it. */
@@ -63,7 +71,8 @@ enum heron_refusal {
     HERON_CONTENTS = 6, /* contents no writer writes: the first wrong field or item */
     HERON_DROPPED = 7,  /* a line is dropped */
     HERON_SETTING = 8,  /* a setting out of range: the lowest item */
-    HERON_STATE = 16    /* a handed-in state or collector that is not valid */
+    HERON_TOO_LONG = 9, /* a message of a stream longer than a cutter holds */
+    HERON_STATE = 16    /* a handed-in state, collector or cutter that is not valid */
 };
 
 /* What a number says; any number has an answer. */
@@ -79,6 +88,7 @@ static inline const char *heron_refusal_name(uint32_t number)
     case HERON_CONTENTS: return "contents no writer writes";
     case HERON_DROPPED: return "line dropped";
     case HERON_SETTING: return "setting out of range";
+    case HERON_TOO_LONG: return "message too long";
     case HERON_STATE: return "state not valid";
     default: return "no refusal number";
     }
@@ -144,6 +154,70 @@ typedef struct heron_collected {
     bool ended;
     heron_line line;
 } heron_collected;
+
+/* ---- a stream in pieces */
+
+/* The bytes of a stream since its last LF CR. Whoever reads a stream keeps one, all zero at first. */
+typedef struct heron_cutter {
+    uint8_t bytes[HERON_CUTTER_LEN];
+    size_t len; /* how many of them count; one more than HERON_CUTTER_LEN: the message at hand is too long */
+} heron_cutter;
+
+/* number: 0 or the refusal. value: what comes with it. used: how many bytes of the piece were taken, the rest is
+ * to be handed in again. ended: a message ended with the last of them, and number and value are its. */
+typedef struct heron_cut {
+    uint32_t number;
+    uint64_t value;
+    size_t used;
+    bool ended;
+} heron_cut;
+
+/* A recorder's settings. */
+typedef struct heron_setup {
+    bool packed;   /* records are packed, else text */
+    bool checksum; /* they carry checksums */
+} heron_setup;
+
+/* A recorder between calls. */
+typedef struct heron_recorder {
+    heron_cutter cutter;
+    heron_setup setup;
+    bool sent;   /* what it had to send was handed out */
+    bool opened; /* a message of fixed data was accepted */
+} heron_recorder;
+
+/* As heron_cut. opening: the message was read as fixed data, else as a record. */
+typedef struct heron_recorded {
+    uint32_t number;
+    uint64_t value;
+    size_t used;
+    bool ended;
+    bool opening;
+} heron_recorded;
+
+/* The same with the cutter or the recorder for what follows: what the functions ending in _value hand back. */
+typedef struct heron_cut_value {
+    uint32_t number;
+    uint64_t value;
+    size_t used;
+    bool ended;
+    heron_cutter cutter;
+} heron_cut_value;
+
+typedef struct heron_send_value {
+    uint32_t number;
+    uint64_t value;
+    heron_recorder recorder;
+} heron_send_value;
+
+typedef struct heron_take_value {
+    uint32_t number;
+    uint64_t value;
+    size_t used;
+    bool ended;
+    bool opening;
+    heron_recorder recorder;
+} heron_take_value;
 
 #ifdef __cplusplus
 extern "C" {
@@ -217,9 +291,121 @@ heron_answer heron_checksum(const uint8_t *bytes, size_t len);
  * may be read and written until the call returns; and line->overlong holds 0 or 1. Its bytes and len may be any. */
 heron_collected heron_collect(heron_line *line, uint8_t byte);
 
+/* ---- the cutter */
+
+/* Cut a stream that comes in pieces of any length, also empty ones: take the piece up to the first end of a message
+ * or, where none ends, all of it. A message ends at each LF CR; lone LF or CR bytes are ordinary. However the pieces
+ * fall, the answers are the same. Reader and checksum may be others with each call: a message is read as the call says
+ * in which it ends. heron_cut_text and its fellows below do the same with a cutter that you keep.
+ * A message that ended is read by the reader that is named, as it is in heron_read_text, heron_read_packed and
+ * heron_read_fixed: done, out holds the contents and value is their count. heron_cut_message_value hands out the
+ * message itself: value is its length. Where no message ended, number and value are 0 and nothing is written.
+ * Refused, in this order:
+ *   16  cutter.len is past HERON_CUTTER_LEN + 1: no byte is used, and the cutter stays as it was
+ *    9  the message is longer than HERON_CUTTER_LEN
+ *    3, 5, 6 as the reader; 4 does not occur
+ *    2  out shorter than what goes in it: the needed length
+ * After a message's end the cutter is all zero, whatever was answered: a refused message is used up. */
+heron_cut_value heron_cut_text_value(heron_cutter cutter, const uint8_t *piece, size_t len, bool checksum,
+                                     uint8_t *out, size_t out_len);
+heron_cut_value heron_cut_packed_value(heron_cutter cutter, const uint8_t *piece, size_t len, bool checksum,
+                                       uint8_t *out, size_t out_len);
+heron_cut_value heron_cut_fixed_value(heron_cutter cutter, const uint8_t *piece, size_t len, bool checksum,
+                                      uint8_t *out, size_t out_len);
+heron_cut_value heron_cut_message_value(heron_cutter cutter, const uint8_t *piece, size_t len,
+                                        uint8_t *out, size_t out_len);
+
+/* ---- the recorder */
+
+/* A recorder with the settings that one starts with, text records and checksums off; and one with these settings. It
+ * has N CR to send. It reads messages as fixed data, plain, until the reader accepts one, also where out was then too
+ * short for it; from then on as records of its form and with its checksums. Never refused. */
+heron_recorder heron_recorder_first(void);
+heron_recorder heron_recorder_start(bool packed, bool checksum);
+
+/* What it has to send, to the start of out: HERON_SEND_LEN bytes the first time, then none. Done: value is the count.
+ * heron_recorder_send below does the same with a recorder that you keep. Refused, and the recorder stays as it was:
+ *   16  recorder.cutter.len is past HERON_CUTTER_LEN + 1
+ *    2  out shorter than what is to be sent: the needed length
+ * Your duty here and below, which cannot be checked: each of the recorder's bools holds 0 or 1. */
+heron_send_value heron_recorder_send_value(heron_recorder recorder, uint8_t *out, size_t out_len);
+
+/* Cuts a piece as the cutter does and reads the message that ended, as fixed data into HERON_FIXED_BYTES or as a
+ * record into HERON_RECORD_BYTES of out; opening says which. heron_recorder_take below does the same with a recorder
+ * that you keep. Refused as the cutter: 16; 9; 3, 5, 6; 2. */
+heron_take_value heron_recorder_take_value(heron_recorder recorder, const uint8_t *piece, size_t len,
+                                           uint8_t *out, size_t out_len);
+
 #ifdef __cplusplus
 }
 #endif
+
+/* ---- the cutter and the recorder where you keep them: *cutter or *recorder, which may not be null, is made the one for
+ * what follows, whatever was answered */
+
+static inline heron_cut heron_cut_kept(heron_cutter *cutter, const heron_cut_value *made)
+{
+    heron_cut cut;
+    cut.number = made->number;
+    cut.value = made->value;
+    cut.used = made->used;
+    cut.ended = made->ended;
+    *cutter = made->cutter;
+    return cut;
+}
+
+static inline heron_cut heron_cut_text(heron_cutter *cutter, const uint8_t *piece, size_t len, bool checksum,
+                                       uint8_t *out, size_t out_len)
+{
+    heron_cut_value made = heron_cut_text_value(*cutter, piece, len, checksum, out, out_len);
+    return heron_cut_kept(cutter, &made);
+}
+
+static inline heron_cut heron_cut_packed(heron_cutter *cutter, const uint8_t *piece, size_t len, bool checksum,
+                                         uint8_t *out, size_t out_len)
+{
+    heron_cut_value made = heron_cut_packed_value(*cutter, piece, len, checksum, out, out_len);
+    return heron_cut_kept(cutter, &made);
+}
+
+static inline heron_cut heron_cut_fixed(heron_cutter *cutter, const uint8_t *piece, size_t len, bool checksum,
+                                        uint8_t *out, size_t out_len)
+{
+    heron_cut_value made = heron_cut_fixed_value(*cutter, piece, len, checksum, out, out_len);
+    return heron_cut_kept(cutter, &made);
+}
+
+/* The message itself: value its length; 9, then 2. */
+static inline heron_cut heron_cut_message(heron_cutter *cutter, const uint8_t *piece, size_t len,
+                                          uint8_t *out, size_t out_len)
+{
+    heron_cut_value made = heron_cut_message_value(*cutter, piece, len, out, out_len);
+    return heron_cut_kept(cutter, &made);
+}
+
+static inline heron_answer heron_recorder_send(heron_recorder *recorder, uint8_t *out, size_t out_len)
+{
+    heron_send_value made = heron_recorder_send_value(*recorder, out, out_len);
+    heron_answer answer;
+    answer.number = made.number;
+    answer.value = made.value;
+    *recorder = made.recorder;
+    return answer;
+}
+
+static inline heron_recorded heron_recorder_take(heron_recorder *recorder, const uint8_t *piece, size_t len,
+                                                 uint8_t *out, size_t out_len)
+{
+    heron_take_value made = heron_recorder_take_value(*recorder, piece, len, out, out_len);
+    heron_recorded recorded;
+    recorded.number = made.number;
+    recorded.value = made.value;
+    recorded.used = made.used;
+    recorded.ended = made.ended;
+    recorded.opening = made.opening;
+    *recorder = made.recorder;
+    return recorded;
+}
 
 /* ---- the readers' bytes as structs */
 

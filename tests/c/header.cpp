@@ -1,5 +1,53 @@
-// The header from C++: a record through both forms and fixed data through theirs. Exit status 1 if one comes back otherwise.
+// The header from C++: a record through both forms and fixed data through theirs, a stream through each cutter and a recorder. Exit
+// status 1 if something comes back otherwise.
 #include <hourheron.h>
+
+// One message in two pieces, by the entry that is named; then the cutter is as a fresh one.
+template <typename Cut> static bool cuts(const uint8_t *message, size_t len, size_t contents, Cut cut)
+{
+    heron_cutter cutter = {}, fresh = {};
+    uint8_t out[HERON_CUTTER_LEN];
+    heron_cut first = cut(&cutter, message, len - 1, out, sizeof out);
+    heron_cut last = cut(&cutter, message + len - 1, 1, out, sizeof out);
+    return !first.ended && first.used == len - 1 && last.ended && last.used == 1 && last.number == HERON_DONE && last.value == contents &&
+           memcmp(&cutter, &fresh, sizeof fresh) == 0;
+}
+
+static bool cuts_text(const uint8_t *message, size_t len)
+{
+    return cuts(message, len, HERON_RECORD_BYTES, [](heron_cutter *c, const uint8_t *p, size_t n, uint8_t *out, size_t room) {
+        return heron_cut_text(c, p, n, true, out, room);
+    });
+}
+
+static bool cuts_packed(const uint8_t *message, size_t len)
+{
+    return cuts(message, len, HERON_RECORD_BYTES, [](heron_cutter *c, const uint8_t *p, size_t n, uint8_t *out, size_t room) {
+        return heron_cut_packed(c, p, n, false, out, room);
+    });
+}
+
+static bool cuts_fixed(const uint8_t *message, size_t len)
+{
+    return cuts(message, len, HERON_FIXED_BYTES, [](heron_cutter *c, const uint8_t *p, size_t n, uint8_t *out, size_t room) {
+        return heron_cut_fixed(c, p, n, true, out, room);
+    });
+}
+
+// A recorder asks for fixed data, takes it, then a record.
+static bool records(heron_recorder recorder, const heron_fixed &fixed, const heron_record &record)
+{
+    uint8_t message[HERON_LONGEST], out[HERON_RECORD_BYTES];
+    if (heron_recorder_send(&recorder, out, sizeof out).value != HERON_SEND_LEN || memcmp(out, "N\r", HERON_SEND_LEN) != 0)
+        return false;
+    size_t len = heron_fixed_to_message(&fixed, false, message, sizeof message).value;
+    heron_recorded taken = heron_recorder_take(&recorder, message, len, out, sizeof out);
+    if (taken.number != HERON_DONE || !taken.ended || !taken.opening || taken.used != len)
+        return false;
+    len = heron_record_to_text(&record, false, message, sizeof message).value;
+    taken = heron_recorder_take(&recorder, message, len, out, sizeof out);
+    return taken.number == HERON_DONE && taken.ended && !taken.opening && heron_record_unpack(out).focus == record.focus;
+}
 
 int main()
 {
@@ -10,8 +58,12 @@ int main()
     heron_answer written = heron_record_to_text(&record, true, message, sizeof message);
     if (written.number != HERON_DONE || heron_record_from_text(message, written.value, true, &text).number != HERON_DONE)
         return 1;
+    if (!cuts_text(message, written.value) || !cuts(message, written.value, written.value, heron_cut_message))
+        return 1;
     written = heron_record_to_packed(&text, false, message, sizeof message);
     if (written.number != HERON_DONE || heron_record_from_packed(message, written.value, false, &packed).number != HERON_DONE)
+        return 1;
+    if (!cuts_packed(message, written.value))
         return 1;
 
     heron_fixed fixed = {{'s', 'e', 'r', 'i', 'a', 'l', ' ', ' ', '1'}, {}, 'Z', 18, 100, 'b', 95, {'4', '.', '3', '4'}};
@@ -19,6 +71,10 @@ int main()
     heron_fixed back;
     written = heron_fixed_to_message(&fixed, true, message, sizeof message);
     if (written.number != HERON_DONE || heron_fixed_from_message(message, written.value, true, &back).number != HERON_DONE)
+        return 1;
+    if (!cuts_fixed(message, written.value))
+        return 1;
+    if (!records(heron_recorder_first(), fixed, record) || !records(heron_recorder_start(false, false), fixed, record))
         return 1;
 
     bool same = packed.focus == 798 && packed.pupil == -23 && memcmp(packed.serial, record.serial, sizeof record.serial) == 0 &&

@@ -6,35 +6,23 @@
 #[path = "reference/lens.rs"]
 mod lens;
 mod library;
+mod messages;
 mod random;
+mod tally;
 
-use lens::{Fixed, Record, Refusal};
+use lens::{Fixed, Record};
 use library::Converted;
+use messages::*;
 use random::Random;
 use std::process::exit;
+use tally::{hex, Tallies};
 
 const GUARD: usize = 16;
 const GUARD_BYTE: u8 = 0xEE;
 const LONGEST_ROOM: usize = 160;
 const MOST_REPORTS: u64 = 10;
 
-type Outcome = Result<usize, Refusal>;
-
-// ---- records and fixed data, in range and out of it
-
-const LIMITS: [(i64, i64); 11] = [
-    (0, 9_999_999),
-    (0, 4095),
-    (0, 250),
-    (0, 9),
-    (0, 1023),
-    (0, 9_999_999),
-    (0, 9_999_999),
-    (0, 9_999_999),
-    (0, 4095),
-    (-999, 999),
-    (0, 1000),
-];
+// ---- records and fixed data, in range or out of it
 
 /// What the C interface can hand over as this field: a signed number for the pupil, an unsigned one for the others.
 fn as_argument(field: usize, v: i64) -> i64 {
@@ -42,18 +30,6 @@ fn as_argument(field: usize, v: i64) -> i64 {
         i64::from(v as i32)
     } else {
         i64::from(v as u32)
-    }
-}
-
-fn right_value(random: &mut Random, field: usize) -> i64 {
-    let (low, high) = LIMITS[field - 1];
-    match (field, random.below(4)) {
-        (3, 0) => random.pick(&[0, 1, 9, 10, 98, 99, 100, 110, 120, 130, 240, 250]),
-        (3, 1) => 10 * random.between(10, 25),
-        (3, _) => random.between(0, 99),
-        (10, 0) => random.pick(&[low, low + 1, -1, 0, 1, high - 1, high]),
-        (_, 0) => random.pick(&[low, low + 1, high - 1, high]),
-        _ => random.between(low, high),
     }
 }
 
@@ -70,10 +46,6 @@ fn wrong_value(random: &mut Random, field: usize) -> i64 {
         _ => random.next() as i64,
     };
     as_argument(field, v)
-}
-
-fn right_text(random: &mut Random, length: usize) -> Vec<u8> {
-    (0..length).map(|_| if random.below(8) == 0 { random.pick(b" ~!}") } else { random.between(0x20, 0x7E) as u8 }).collect()
 }
 
 /// A byte out of range in it, or another length.
@@ -95,26 +67,10 @@ fn wrong_text(random: &mut Random, length: usize) -> Vec<u8> {
     text
 }
 
-/// A name and trailing spaces, often none of the one or none of the other.
-fn right_owner(random: &mut Random) -> Vec<u8> {
-    let mut owner = right_text(random, 31);
-    let name = random.pick(&[0, 0, 1, 2, 5, 15, 29, 30, 31, 31]);
-    owner[name..].fill(b' ');
-    owner
-}
-
 /// Nothing wrong, one field wrong, or several: bit n - 1 stands for field or item n.
 fn wrongs(random: &mut Random, fields: usize) -> u32 {
     let count = random.pick(&[0, 0, 0, 1, 1, 2, 3, 6]);
     (0..count).fold(0, |set, _| set | 1 << random.below(fields))
-}
-
-fn right_record(random: &mut Random) -> Record {
-    let mut fields = [0; 11];
-    for field in 1..=11 {
-        fields[field - 1] = right_value(random, field);
-    }
-    Record { fields, serial: right_text(random, 9) }
 }
 
 fn any_record(random: &mut Random) -> Record {
@@ -127,19 +83,6 @@ fn any_record(random: &mut Random) -> Record {
         r.serial = wrong_text(random, 9);
     }
     r
-}
-
-fn right_fixed(random: &mut Random) -> Fixed {
-    Fixed {
-        serial: right_text(random, 9),
-        owner: right_owner(random),
-        kind: random.pick(b"PZ"),
-        focal: random.pick(&[0, 1, 50, 99, 100, 998, 999]),
-        maximum: random.between(0, 999) as u32,
-        letter: random.pick(b"IMBb"),
-        transmission: random.between(0, 99) as u32,
-        version: right_text(random, 4),
-    }
 }
 
 fn any_fixed(random: &mut Random) -> Fixed {
@@ -165,191 +108,7 @@ fn any_fixed(random: &mut Random) -> Fixed {
     f
 }
 
-// ---- the three forms as a reader meets them
-
-struct Form {
-    reader: &'static str,
-    /// Bytes before the checksum and LF CR.
-    contents: usize,
-    /// Bytes the exported reader puts out.
-    output: usize,
-    /// Widths of the message's fields or items in order, tags counted.
-    parts: &'static [usize],
-    /// A field or item, and what is worth trying in its place.
-    edges: &'static [(usize, &'static [&'static [u8]])],
-    right: fn(&mut Random, bool) -> Vec<u8>,
-    reference: fn(&[u8], bool, &mut [u8]) -> Outcome,
-    library: fn(&[u8], bool, &mut [u8]) -> Outcome,
-}
-
-const TEXT: Form = Form {
-    reader: "heron_read_text",
-    contents: lens::TEXT,
-    output: 53,
-    parts: &[8, 5, 4, 2, 5, 8, 8, 8, 6, 5, 5, 10],
-    edges: &[
-        (1, &[b"D9999999", b"D0000000", b"d0000798", b"D   0798", b"D-000798"]),
-        (2, &[b"T4095", b"T4096", b"T9999", b"t0680"]),
-        (
-            3,
-            &[
-                b"t09.", b"t10.", b"t25.", b"t26.", b"t99.", b"t00.", b"t0.0", b"t9.9", b"t.99", b"t1..", b"t..1", b"t...",
-                b"t100", b"t 8.", b"t 8+", b"t5,6", b"T5.6",
-            ],
-        ),
-        (4, &[b"+9", b"+:", b"+/", b"-5"]),
-        (5, &[b"Z1023", b"Z1024", b"Z9999", b"z0000"]),
-        (6, &[b"H9999999", b"N0006123"]),
-        (7, &[b"N9999999"]),
-        (8, &[b"F999999:"]),
-        (9, &[b"V409.5", b"V409.6", b"V999.9", b"V27.30", b"V0273.", b"V02730"]),
-        (10, &[b"E-000", b"E+000", b"E-001", b"E-999", b"E+999", b"E 023", b"E0023", b"E--01"]),
-        (11, &[b"z1000", b"z1001", b"z9999", b"Z0000", b"z1.00"]),
-        (12, &[b"S         ", b"S~~~~~~~~~", b"S12345678\x7F", b"S\x1F23456789", b"s4050.0093"]),
-    ],
-    right: |random, with_sum| lens::text_message(&right_record(random), with_sum).unwrap(),
-    reference: lens::read_text,
-    library: library::read_text,
-};
-
-// Among the packed edges: distances 9,999,999 and 10,000,000, stops 250 and 251, 99 and 100 with and without bit 7, pupils minus
-// zero, 999 and 1000, zooms 1000 and 1001, and bits set where none may be.
-const PACKED: Form = Form {
-    reader: "heron_read_packed",
-    contents: lens::PACKED,
-    output: 53,
-    parts: &[5, 2, 1, 1, 2, 4, 4, 4, 2, 2, 2, 10],
-    edges: &[
-        (1, &[b"d\x66\x49\x59\x7F", b"d\x66\x49\x5A\x40", b"d\x7F\x7F\x7F\x7F", b"D\x40\x40\x4C\x5E", b"d\x40\x40\x0C\x5E"]),
-        (2, &[b"\x7F\x7F", b"\x80\x40"]),
-        (3, &[b"\xFA", b"\xFB", b"\xE3", b"\xE4", b"\xE6", b"\xE7", b"\x82", b"\x38"]),
-        (4, &[b"\x80", b"\xC0", b"\xC9", b"\xCA", b"\x8F", b"\x95", b"\xA5", b"\x05", b"\x45"]),
-        (5, &[b"\x4F\x7F", b"\x50\x40", b"\x60\x40"]),
-        (6, &[b"\x66\x49\x59\x7F", b"\x66\x49\x5A\x40"]),
-        (7, &[b"\x66\x49\x5A\x40"]),
-        (8, &[b"\x66\x49\x5A\x40", b"\x7F\x7F\x7F\x7F"]),
-        (9, &[b"\x7F\x7F"]),
-        (
-            10,
-            &[
-                b"\x60\x40",
-                b"\x40\x40",
-                b"\x60\x41",
-                b"\x4F\x67",
-                b"\x4F\x68",
-                b"\x6F\x67",
-                b"\x6F\x68",
-                b"\x50\x40",
-                b"\x70\x40",
-                b"\x20\x40",
-            ],
-        ),
-        (11, &[b"\x4F\x68", b"\x4F\x69", b"\x50\x40"]),
-        (12, &[b"S         ", b"S~~~~~~~~~", b"S12345678\x7F", b"S\x1F23456789", b"s4050.0093"]),
-    ],
-    right: |random, with_sum| lens::packed_message(&right_record(random), with_sum).unwrap(),
-    reference: lens::read_packed,
-    library: library::read_packed,
-};
-
-const FIXED: Form = Form {
-    reader: "heron_read_fixed",
-    contents: lens::FIXED,
-    output: 51,
-    parts: &[11, 32, 2, 4, 4, 2, 3, 7],
-    edges: &[
-        (1, &[b"nS4050.0093", b"Ns4050.0093", b"NS         ", b"NS\x7F050.0093", b"NS4050.009\x1F"]),
-        (
-            2,
-            &[
-                b"O                               ",
-                b"OA                              ",
-                b"O                              A",
-                b"OA                             \x1F",
-                b"OA                             \x7F",
-                b"OA                             \x00",
-                b"OA                             \xA0",
-                b"o                               ",
-            ],
-        ),
-        (3, &[b"LP", b"LZ", b"LA", b"Lp", b"lP"]),
-        (4, &[b"N999", b"N 50", b"N05:", b"f050"]),
-        (5, &[b"M000", b"M05/", b"N050"]),
-        (6, &[b"UI", b"UM", b"UB", b"Ub", b"Ui", b"Um", b"uI"]),
-        (7, &[b"T99", b"T9 ", b"T:0", b"E95"]),
-        (8, &[b"  B~~~~", b"  B4.3\x7F", b"  b4.34", b" B4.34 ", b"   B4.3", b"\x00 B4.34", b" \x00B4.34"]),
-    ],
-    right: |random, with_sum| lens::fixed_message(&right_fixed(random), with_sum).unwrap(),
-    reference: lens::read_fixed,
-    library: library::read_fixed,
-};
-
-fn part_start(form: &Form, part: usize) -> usize {
-    form.parts[..part - 1].iter().sum()
-}
-
-fn with_part(message: &[u8], form: &Form, part: usize, bytes: &[u8]) -> Vec<u8> {
-    let mut m = message.to_vec();
-    let start = part_start(form, part);
-    m[start..start + bytes.len()].copy_from_slice(bytes);
-    m
-}
-
-/// Puts LF CR at the end and, in checksum mode, the right checksum before it, so that a reader reaches the contents.
-fn reseal(m: &mut [u8], with_sum: bool) {
-    let ending = if with_sum { 4 } else { 2 };
-    if m.len() < ending {
-        return;
-    }
-    let (before, end) = m.split_at_mut(m.len() - ending);
-    if with_sum {
-        end[..2].copy_from_slice(&lens::checksum(before));
-    }
-    let last = end.len() - 2;
-    end[last..].copy_from_slice(b"\n\r");
-}
-
-/// One damage: a byte changed, bytes cut or added, two fields exchanged, or an edge in a field's place.
-fn damage(random: &mut Random, form: &Form, m: &mut Vec<u8>) {
-    if m.len() < form.contents {
-        return m.push(random.byte());
-    }
-    let place = random.below(m.len());
-    let parts = form.parts.len();
-    match random.below(12) {
-        0 => m[place] = random.byte(),
-        1 => m[place] ^= 1 << random.below(8),
-        2 => m[place] = m[place].wrapping_add(random.pick(&[1, 255])),
-        3 => m[place] = random.pick(b"/0123456789:.+- @DTtZHNFVEzSdNOLMUB\n\r"),
-        4 => m.truncate(m.len() - 1 - random.below(3)),
-        5 => drop(m.drain(place..(place + 1 + random.below(3)).min(m.len()))),
-        6 => {
-            for _ in 0..=random.below(3) {
-                m.insert(place, random.byte());
-            }
-        }
-        7 | 8 => {
-            let (a, b) = (1 + random.below(parts), 1 + random.below(parts));
-            let (a, b) = (a.min(b), a.max(b));
-            if a != b {
-                let (start, end) = (part_start(form, a), part_start(form, b) + form.parts[b - 1]);
-                let middle = start + form.parts[a - 1]..part_start(form, b);
-                let exchanged = [&m[middle.end..end], &m[middle.clone()], &m[start..middle.start]].concat();
-                m[start..end].copy_from_slice(&exchanged);
-            }
-        }
-        _ => {
-            let (part, tries) = random.pick(form.edges);
-            *m = with_part(m, form, part, random.pick(tries));
-        }
-    }
-}
-
 // ---- comparing
-
-fn hex(bytes: &[u8]) -> String {
-    bytes.iter().map(|b| format!("{b:02X}")).collect::<Vec<_>>().join(" ")
-}
 
 fn shown_record(r: &Record, with_sum: bool) -> String {
     let numbers: Vec<String> = r.fields.iter().map(|&v| format!("{:X}", v as u32)).collect();
@@ -368,52 +127,14 @@ fn shown_message(m: &[u8], with_sum: bool) -> String {
     format!("message {} ({} bytes); checksum {with_sum}", hex(m), m.len())
 }
 
-/// What an entry's cases came to: how many had each number, and (a bit each) which fields or items were refused.
-#[derive(Default)]
-struct Tally {
-    entry: &'static str,
-    numbers: [u64; 9],
-    fields: u32,
-}
-
-impl Tally {
-    fn cases(&self) -> u64 {
-        self.numbers.iter().sum()
-    }
-
-    fn line(&self) -> String {
-        let mut line = format!("{:20} {:>9} cases: done {}", self.entry, self.cases(), self.numbers[0]);
-        for (number, count) in self.numbers.iter().enumerate().skip(1).filter(|(_, &count)| count != 0) {
-            line += &format!(", refused {number}: {count}");
-            if [1, 6, 8].contains(&number) {
-                line += &format!(" (in {} fields)", self.fields.count_ones());
-            }
-        }
-        line
-    }
-}
-
 struct Test {
     seed: u64,
     random: Random,
-    tallies: Vec<Tally>,
+    tallies: Tallies,
     differences: u64,
 }
 
 impl Test {
-    fn count(&mut self, entry: &'static str, right: Outcome) {
-        let place = self.tallies.iter().position(|tally| tally.entry == entry).unwrap_or_else(|| {
-            self.tallies.push(Tally { entry, ..Tally::default() });
-            self.tallies.len() - 1
-        });
-        let tally = &mut self.tallies[place];
-        let Refusal { number, value } = right.err().unwrap_or(Refusal { number: 0, value: 0 });
-        tally.numbers[number as usize] += 1;
-        if [1, 6, 8].contains(&number) && (1..=12).contains(&value) {
-            tally.fields |= 1 << value;
-        }
-    }
-
     fn differ(&mut self, entry: &str, input: String, reference: String, library: String) {
         self.differences += 1;
         println!("DIFFERENCE in {entry}");
@@ -428,7 +149,7 @@ impl Test {
     }
 
     fn compare(&mut self, entry: &'static str, right: Outcome, found: Outcome, input: impl Fn() -> String) {
-        self.count(entry, right);
+        self.tallies.count(entry, right);
         if right != found {
             self.differ(entry, input(), format!("{right:?}"), format!("{found:?}"));
         }
@@ -449,7 +170,7 @@ impl Test {
         let (mut right, mut found) = (memory, memory);
         let right_answer = reference(&mut right[lent.clone()]);
         let found_answer = library(&mut found[lent.clone()]);
-        self.count(entry, right_answer);
+        self.tallies.count(entry, right_answer);
         if right_answer != found_answer || right != found || (found_answer.is_err() && found != memory) {
             let shown = |answer: Outcome, memory: &[u8]| {
                 let (before, after) = (&memory[..GUARD], &memory[lent.end..]);
@@ -526,7 +247,7 @@ impl Test {
             Err(refusal) => Converted { number: refusal.number, field: refusal.value as u32, value: 0 },
         };
         let found = library::convert(field, number, unit, wanted);
-        self.count("heron_convert", answer.map(|_| 0));
+        self.tallies.count("heron_convert", answer.map(|_| 0));
         if right != found {
             let input = format!("field {field:X}; number {number:X} ({number}); unit {unit:02X}; wanted {wanted:02X}");
             self.differ("heron_convert", input, format!("{right:?}"), format!("{found:?}"));
@@ -555,33 +276,7 @@ impl Test {
     }
 
     fn random_read(&mut self, form: &Form) {
-        let random = &mut self.random;
-        let with_sum = random.flag();
-        let mut m = (form.right)(random, with_sum);
-        let mut told = with_sum;
-        match random.below(12) {
-            0 | 1 => {}
-            2 | 3 => damage(random, form, &mut m),
-            4..=8 => {
-                for _ in 0..random.pick(&[1, 1, 1, 2, 3]) {
-                    damage(random, form, &mut m);
-                }
-                reseal(&mut m, with_sum);
-            }
-            9 => {
-                m = (0..m.len()).map(|_| random.byte()).collect();
-                if random.flag() {
-                    reseal(&mut m, with_sum);
-                }
-            }
-            10 => {
-                // Right at the front, anything from some place on.
-                let place = random.below(form.contents);
-                m[place..form.contents].iter_mut().for_each(|b| *b = random.byte());
-                reseal(&mut m, with_sum);
-            }
-            _ => told = !with_sum,
-        }
+        let (m, told) = any_message(&mut self.random, form);
         let room = self.room(form.output);
         self.read(form, &m, told, room);
     }
@@ -789,7 +484,7 @@ fn main() {
     let seed = arguments.next().unwrap_or(1);
     let cases = arguments.next().unwrap_or(1_000_000);
     println!("differential: seed {seed}, {cases} random cases per entry beside the exhaustive ones");
-    let mut test = Test { seed, random: Random(seed), tallies: Vec::new(), differences: 0 };
+    let mut test = Test { seed, random: Random(seed), tallies: Tallies::default(), differences: 0 };
 
     test.every_room();
     for form in [TEXT, PACKED, FIXED] {
@@ -808,10 +503,7 @@ fn main() {
         test.random_checksum();
     }
 
-    for tally in &test.tallies {
-        println!("{}", tally.line());
-    }
-    let total: u64 = test.tallies.iter().map(Tally::cases).sum();
+    let total = test.tallies.print();
     println!("differential: {total} cases, {} differences", test.differences);
     exit(if test.differences == 0 { 0 } else { 1 });
 }

@@ -15,7 +15,7 @@ type WriteRecord = unsafe extern "C" fn(
 type ReadMessage = unsafe extern "C" fn(*const u8, usize, bool, *mut u8, usize) -> Answer;
 type AskMessage = unsafe extern "C" fn(*const u8, usize, bool) -> Answer;
 
-fn start(bytes: &[u8]) -> *const u8 {
+pub fn start(bytes: &[u8]) -> *const u8 {
     if bytes.is_empty() {
         std::ptr::null()
     } else {
@@ -23,7 +23,7 @@ fn start(bytes: &[u8]) -> *const u8 {
     }
 }
 
-fn start_mut(bytes: &mut [u8]) -> *mut u8 {
+pub fn start_mut(bytes: &mut [u8]) -> *mut u8 {
     if bytes.is_empty() {
         std::ptr::null_mut()
     } else {
@@ -31,11 +31,16 @@ fn start_mut(bytes: &mut [u8]) -> *mut u8 {
     }
 }
 
-fn outcome(answer: Answer) -> Result<usize, Refusal> {
-    match answer {
-        Answer { number: 0, value } => Ok(value as usize),
-        Answer { number, value } => Err(Refusal { number, value }),
+pub fn outcome_of(number: u32, value: u64) -> Result<usize, Refusal> {
+    if number == 0 {
+        Ok(value as usize)
+    } else {
+        Err(Refusal { number, value })
     }
+}
+
+fn outcome(answer: Answer) -> Result<usize, Refusal> {
+    outcome_of(answer.number, answer.value)
 }
 
 // Each `unsafe` below hands over slices that live through the call, with their own lengths.

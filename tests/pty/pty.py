@@ -1,4 +1,5 @@
-"""Talks to the lens on its serial device as an ordinary serial client: a raw terminal at 115200 bits a second."""
+"""Talks to the lens on its serial device as an ordinary serial client: a raw terminal at 115200 bits a second; then heron-bench, the program
+named in the argument, records from it."""
 import os
 import signal
 import subprocess
@@ -8,6 +9,7 @@ import termios
 import tty
 
 sys.path.insert(0, os.path.join(os.path.dirname(os.path.abspath(__file__)), "..", "driver"))
+import record
 from talk import ROOT, Talk, Wrong, commands, continuous
 
 
@@ -45,6 +47,8 @@ def main():
             if told != link:
                 raise Wrong(f"lens-pty: awaited the device's name {link!r}, came {told!r}")
             exchanges = talked(link)
+            record.on_the_lens(sys.argv[1], link, opened)
+            record.scripted(sys.argv[1])
             os.killpg(server.pid, signal.SIGINT)
             if server.wait(20) != 0:
                 raise Wrong(f"lens-pty: Ctrl-C ended it with status {server.returncode}")
@@ -57,7 +61,7 @@ def main():
             if server.poll() is None:
                 os.killpg(server.pid, signal.SIGTERM)
                 server.wait()
-    print(f"pty: {exchanges} answers through the serial device, byte for byte; records and a command together; Ctrl-C ends it")
+    print(f"pty: {exchanges} answers through the serial device, byte for byte; records and a command together; heron-bench records; Ctrl-C ends it")
     return 0
 
 

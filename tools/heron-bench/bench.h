@@ -10,6 +10,7 @@ enum { DONE = 0, REFUSED = 1, USAGE = 2 };
 
 /* The subcommands: argv[0] is the subcommand's name. Each returns an exit status. */
 int read_command(int argc, char **argv);
+int record_command(int argc, char **argv);
 int write_command(int argc, char **argv);
 int convert_command(int argc, char **argv);
 int checksum_command(int argc, char **argv);
@@ -63,6 +64,23 @@ void print_hex(const uint8_t *bytes, size_t len);
 
 /* In quotes; what is no printable character, a quote and a backslash as \xNN. */
 void print_quoted(const uint8_t *bytes, size_t len);
+
+/* ---- what a message is and holds, as the end of a line that says where it stands, and lines below it */
+
+/* Enough for the contents of any form. */
+#define CONTENTS_BYTES HERON_RECORD_BYTES
+
+/* What the form's reader answered: the contents that it left, or the refusal. Returns whether it accepted the message. */
+bool report_form(const buffer *m, form f, bool checksum, heron_answer answer, const uint8_t *contents, char unit);
+
+/* Says what a short reply of the lens is. Returns whether nothing is wrong with it. */
+bool report_reply(const buffer *m, bool checksum);
+
+/* A message of so many bytes, of which the library keeps none. */
+void report_too_long(unsigned long long len);
+
+/* A line with the bytes of a message that was refused. */
+void print_bytes(const uint8_t *bytes, size_t len);
 
 /* ---- the command line */
 

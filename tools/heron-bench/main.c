@@ -1,15 +1,16 @@
-/* heron-bench: reads and writes the messages of a Cooke /i lens on the bench, over libhourheron. No rule of the
- * messages stands here: ranges, forms, checksums and conversions are the library's. */
+/* heron-bench: reads, records and writes the messages of a Cooke /i lens on the bench, over libhourheron. No rule of
+ * the messages stands here: ranges, forms, ends, checksums and conversions are the library's. */
 #include "bench.h"
 
 #include <inttypes.h>
 #include <stdlib.h>
 
 static const char help[] =
-    "usage: heron-bench read|write|convert|checksum [OPTION...] [ARGUMENT...]\n"
+    "usage: heron-bench read|record|write|convert|checksum [OPTION...] [ARGUMENT...]\n"
     "\n"
     "The messages of a Cooke /i lens on the bench:\n"
     "  read       says what each message of a stream or a file is and holds\n"
+    "  record     asks the lens on a serial device for its records and says what each holds\n"
     "  write      writes a text record, a packed record or fixed data\n"
     "  convert    a distance or the entrance pupil from one unit to the other\n"
     "  checksum   the two checksum characters of some bytes\n"
@@ -128,6 +129,7 @@ static const struct {
     int (*run)(int argc, char **argv);
 } commands[] = {
     {"read", read_command},
+    {"record", record_command},
     {"write", write_command},
     {"convert", convert_command},
     {"checksum", checksum_command},

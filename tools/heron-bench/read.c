@@ -1,9 +1,10 @@
-/* heron-bench read: says what each message is and holds. */
+/* heron-bench read: says what each message is and holds. Where a message of a stream ends is the library's to say. */
+#define _POSIX_C_SOURCE 200809L
 #include "bench.h"
 
 #include <errno.h>
-#include <inttypes.h>
 #include <stdlib.h>
+#include <unistd.h>
 
 static const char help[] =
     "usage: heron-bench read [OPTION...] [FILE...]\n"
@@ -17,7 +18,7 @@ static const char help[] =
     "  -u, --unit UNIT    the display unit of distances and pupil: I (0.1 inch) or M (1 mm)\n"
     "  -h, --help         prints this\n"
     "\n"
-    "The input is a stream of bytes in which a message ends at LF CR, or\n"
+    "The input is a stream of bytes in which a message ends at LF CR; bytes behind the last one are no message. Or\n"
     "  -l, --lines        a message a line, without its LF CR; a CR at either end of a line is left out\n"
     "  -x, --hex          a message a line, whole with its LF CR, in hex: 64 40 40 4C ... 0A 0D\n"
     "Empty lines are skipped.\n"
@@ -37,181 +38,7 @@ typedef struct {
     unsigned long refused;
 } counts;
 
-/* ---- what a message holds */
-
-/* The start of a row: the number and name of a field or an item. */
-static void print_row(const name *names, int number)
-{
-    printf("  %2d %-24s", number, names[number].words);
-}
-
-/* A distance or the pupil in the display unit. */
-static void print_length(int field, const char *sign, uint32_t size, char unit)
-{
-    print_row(fields, field);
-    if (unit == 'I')
-        printf("%s%" PRIu32 ".%" PRIu32 " in\n", sign, size / 10, size % 10);
-    else
-        printf("%s%" PRIu32 " %s\n", sign, size, unit == 'M' ? "mm" : "display units");
-}
-
-static void print_record(const heron_record *r, char unit)
-{
-    print_length(1, "", r->focus, unit);
-    print_row(fields, 2);
-    printf("f/%" PRIu32 ".%02" PRIu32 "\n", r->aperture / 100, r->aperture % 100);
-    print_row(fields, 3);
-    printf("%" PRIu32 ".%" PRIu32 "\n", r->stop / 10, r->stop % 10);
-    print_row(fields, 4);
-    printf("%" PRIu32 "/10 of a stop\n", r->tenth);
-    print_row(fields, 5);
-    printf("%" PRIu32 " mm\n", r->focal);
-    print_length(6, "", r->hyperfocal, unit);
-    print_length(7, "", r->near, unit);
-    print_length(8, "", r->far, unit);
-    print_row(fields, 9);
-    printf("%" PRIu32 ".%" PRIu32 " degrees\n", r->view / 10, r->view % 10);
-    print_length(10, r->pupil < 0 ? "-" : "+", (uint32_t)(r->pupil < 0 ? -r->pupil : r->pupil), unit);
-    print_row(fields, 11);
-    printf("%" PRIu32 ".%03" PRIu32 "\n", r->zoom / 1000, r->zoom % 1000);
-    print_row(fields, 12);
-    print_quoted(r->serial, sizeof r->serial);
-    putchar('\n');
-}
-
-static const char *letter_words(uint8_t letter)
-{
-    switch (letter) {
-    case 'I': return "imperial";
-    case 'M': return "metric";
-    case 'B': return "imperial, both can be set";
-    default: return "metric, both can be set";
-    }
-}
-
-static void print_fixed(const heron_fixed *f, const uint8_t *owner, size_t owner_len)
-{
-    print_row(items, 1);
-    print_quoted(f->serial, sizeof f->serial);
-    putchar('\n');
-    print_row(items, 2);
-    print_quoted(owner, owner_len);
-    putchar('\n');
-    print_row(items, 3);
-    printf("%c, %s\n", f->kind, f->kind == 'P' ? "prime" : "zoom");
-    print_row(items, 4);
-    printf("%" PRIu32 " mm\n", f->focal);
-    print_row(items, 5);
-    printf("%" PRIu32 " mm\n", f->maximum);
-    print_row(items, 6);
-    printf("%c, %s\n", f->letter, letter_words(f->letter));
-    print_row(items, 7);
-    printf("%" PRIu32 "\n", f->transmission);
-    print_row(items, 8);
-    print_quoted(f->version, sizeof f->version);
-    putchar('\n');
-}
-
 /* ---- a message */
-
-/* Prints what was read, or the refusal; returns whether the message was accepted. */
-static bool report_form(const buffer *m, form f, const options *o)
-{
-    heron_record record;
-    heron_fixed fixed;
-    heron_answer answer;
-    switch (f) {
-    case TEXT:
-        answer = heron_record_from_text(m->bytes, m->len, o->checksum, &record);
-        break;
-    case PACKED:
-        answer = heron_record_from_packed(m->bytes, m->len, o->checksum, &record);
-        break;
-    default:
-        answer = heron_fixed_from_message(m->bytes, m->len, o->checksum, &fixed);
-        break;
-    }
-    printf("%s, ", forms[f].words);
-    if (answer.number != HERON_DONE) {
-        print_refusal(stdout, f, o->checksum, answer);
-        return false;
-    }
-    printf("%zu bytes\n", m->len);
-    if (f == FIXED) {
-        size_t start = (size_t)heron_owner_start(m->bytes, m->len, o->checksum).value;
-        print_fixed(&fixed, m->bytes + start, (size_t)heron_owner_len(m->bytes, m->len, o->checksum).value);
-    } else {
-        print_record(&record, o->unit);
-    }
-    return true;
-}
-
-static const struct reply {
-    const char *start;
-    const char *words;
-} replies[] = {
-    {"<", "ready"},
-    {"!", "done"},
-    {"?", "unknown command"},
-    {"B ", "version"},
-    {"K3", "maker"},
-    {"K4", "type name"},
-    {"Kb", "rate number"},
-    {"P", "temperature in degrees"},
-    {"V", "blur circle in mm"},
-    {"W", "blur circle in mm"},
-    {"X", "display unit imperial"},
-    {"Y", "display unit metric"},
-};
-
-static const struct reply *reply_starting(const buffer *m)
-{
-    for (size_t i = 0; i < sizeof replies / sizeof replies[0]; i++) {
-        size_t len = strlen(replies[i].start);
-        if (m->len >= len && memcmp(m->bytes, replies[i].start, len) == 0)
-            return &replies[i];
-    }
-    return NULL;
-}
-
-static bool ends_lf_cr(const buffer *m)
-{
-    return m->len >= 2 && m->bytes[m->len - 2] == '\n' && m->bytes[m->len - 1] == '\r';
-}
-
-/* A reply's ending, refused with the numbers of the readers and in their order. Done: value is the count of bytes before it. */
-static heron_answer open_reply(const buffer *m, const struct reply *reply, bool checksum)
-{
-    size_t ending = checksum ? 4 : 2;
-    if (m->len < strlen(reply->start) + ending)
-        return (heron_answer){HERON_LENGTH, m->len};
-    if (!ends_lf_cr(m))
-        return (heron_answer){HERON_END, 0};
-    size_t len = m->len - ending;
-    uint64_t sum = heron_checksum(m->bytes, len).value;
-    if (checksum && (m->bytes[len] != sum / 256 || m->bytes[len + 1] != sum % 256))
-        return (heron_answer){HERON_CHECKSUM, 0};
-    return (heron_answer){HERON_DONE, len};
-}
-
-static bool report_reply(const buffer *m, bool checksum)
-{
-    const struct reply *reply = reply_starting(m);
-    if (reply == NULL) {
-        puts("refused, no message starts so");
-        return false;
-    }
-    printf("reply, ");
-    heron_answer opened = open_reply(m, reply, checksum);
-    if (opened.number != HERON_DONE) {
-        print_refusal(stdout, NO_FORM, checksum, opened);
-        return false;
-    }
-    printf("%zu bytes: %s, ", m->len, reply->words);
-    print_quoted(m->bytes, (size_t)opened.value);
-    putchar('\n');
-    return true;
-}
 
 static form form_told_by(const buffer *m)
 {
@@ -225,42 +52,72 @@ static form form_told_by(const buffer *m)
 
 static bool report(const buffer *m, const options *o)
 {
+    static heron_answer (*const readers[NO_FORM])(const uint8_t *, size_t, bool, uint8_t *, size_t) = {
+        heron_read_text, heron_read_packed, heron_read_fixed};
     form f = o->form == NO_FORM ? form_told_by(m) : o->form;
-    return f == NO_FORM ? report_reply(m, o->checksum) : report_form(m, f, o);
+    if (f == NO_FORM)
+        return report_reply(m, o->checksum);
+    uint8_t contents[CONTENTS_BYTES];
+    heron_answer answer = readers[f](m->bytes, m->len, o->checksum, contents, sizeof contents);
+    return report_form(m, f, o->checksum, answer, contents, o->unit);
 }
 
-/* Counts a message, and shows one that was refused. */
-static void count(counts *c, bool accepted, const buffer *m)
+/* Says of a message what it is and counts it; shows one that was refused. */
+static void take(const buffer *m, const options *o, counts *c)
 {
     c->messages++;
-    if (!accepted) {
+    if (!report(m, o)) {
         c->refused++;
-        fputs("     ", stdout);
-        print_quoted(m->bytes, m->len);
-        putchar('\n');
+        print_bytes(m->bytes, m->len);
     }
-    fflush(stdout);
 }
 
 /* ---- the input */
 
-static void read_stream(FILE *in, const char *where, const options *o, counts *c)
+/* As much as there is, without waiting for a full piece: the count of bytes, 0 at the end, or -1 with errno. */
+static ssize_t next_piece(FILE *in, uint8_t *piece, size_t len)
 {
-    buffer m = {NULL, 0, 0};
-    unsigned long long start = 0;
-    int byte;
-    do {
-        byte = getc(in);
-        if (byte != EOF)
-            buffer_add(&m, byte);
-        if (m.len > 0 && (byte == EOF || ends_lf_cr(&m))) {
+    fflush(stdout);
+    ssize_t came;
+    do
+        came = read(fileno(in), piece, len);
+    while (came < 0 && errno == EINTR);
+    return came;
+}
+
+static bool read_stream(FILE *in, const char *where, const options *o, counts *c)
+{
+    static uint8_t piece[65536];
+    uint8_t bytes[HERON_CUTTER_LEN];
+    heron_cutter cutter = {{0}, 0};
+    unsigned long long start = 0, len = 0; /* of the message at hand */
+    ssize_t came;
+    while ((came = next_piece(in, piece, sizeof piece)) > 0)
+        for (size_t at = 0; at < (size_t)came;) {
+            heron_cut cut = heron_cut_message(&cutter, piece + at, (size_t)came - at, bytes, sizeof bytes);
+            at += cut.used;
+            len += cut.used;
+            if (!cut.ended)
+                continue;
             printf("%s: byte %llu: ", where, start);
-            count(c, report(&m, o), &m);
-            start += m.len;
-            m.len = 0;
+            if (cut.number == HERON_DONE) {
+                take(&(buffer){bytes, (size_t)cut.value, sizeof bytes}, o, c);
+            } else {
+                report_too_long(len);
+                c->messages++;
+                c->refused++;
+            }
+            start += len;
+            len = 0;
         }
-    } while (byte != EOF);
-    free(m.bytes);
+    if (came < 0)
+        return false;
+    if (len > 0) {
+        printf("%s: byte %llu: %llu %s without LF CR, no message\n", where, start, len, len == 1 ? "byte" : "bytes");
+        if (cutter.len <= HERON_CUTTER_LEN)
+            print_bytes(cutter.bytes, cutter.len);
+    }
+    return true;
 }
 
 /* A line without its LF; false where there is none. */
@@ -286,7 +143,7 @@ static void message_of_line(const buffer *line, buffer *m)
     }
 }
 
-static void read_lines(FILE *in, const char *where, const options *o, counts *c)
+static bool read_lines(FILE *in, const char *where, const options *o, counts *c)
 {
     buffer line = {NULL, 0, 0};
     buffer m = {NULL, 0, 0};
@@ -299,26 +156,27 @@ static void read_lines(FILE *in, const char *where, const options *o, counts *c)
             message_of_line(&line, &m);
         if (wrong >= 0) {
             printf("%s: line %llu: refused, no hex at character %ld\n", where, number, wrong + 1);
-            count(c, false, &line);
+            print_bytes(line.bytes, line.len);
+            c->messages++;
+            c->refused++;
         } else if (m.len > 0) {
             printf("%s: line %llu: ", where, number);
-            count(c, report(&m, o), &m);
+            take(&m, o, c);
         }
+        fflush(stdout);
     }
     free(line.bytes);
     free(m.bytes);
+    return !ferror(in);
 }
 
 /* Reads one input; false where it cannot be read to its end. */
 static bool read_input(FILE *in, const char *where, const options *o, counts *c)
 {
-    if (o->input == STREAM)
-        read_stream(in, where, o, c);
-    else
-        read_lines(in, where, o, c);
-    if (ferror(in))
+    bool whole = (o->input == STREAM ? read_stream : read_lines)(in, where, o, c);
+    if (!whole)
         fprintf(stderr, "heron-bench read: %s: cannot be read: %s\n", where, strerror(errno));
-    return !ferror(in);
+    return whole;
 }
 
 static bool read_file(const char *path, const options *o, counts *c)

@@ -5,7 +5,7 @@ use mathlib.Core.List.{List}
 use mathlib.Core.Path.{_≡_}
 use Rattle.laws.proofs.OneAnswer.{one-answer}
 use Rattle.refusal.specs.declared.Refusal.{Refusal}
-use Rattle.fixed.specs.Contracts.{AcceptedFixed, RefusedFixed, IsKind, IsLetter, LowestItem, LowestSetting, AreSettings, FixedFrom}
+use Rattle.fixed.specs.Contracts.{AcceptedFixed, NoFixed, RefusedFixed, IsKind, IsLetter, LowestItem, LowestSetting, AreSettings, FixedFrom}
 use Rattle.fixed.specs.declared.Fixed.{Fixed}
 use Rattle.fixed.specs.declared.FixedRead.{FixedRead}
 use Rattle.fixed.specs.declared.Lens.{Lens}
@@ -13,6 +13,9 @@ use Rattle.fixed.specs.declared.Settings.{Settings}
 
 pub one-accepted-fixed : (f : Fixed) {r r′ : FixedRead} → AcceptedFixed f r → AcceptedFixed f r′ → r ≡ r′
 one-accepted-fixed f = one-answer
+
+pub one-no-fixed : {r r′ : Fixed} → NoFixed r → NoFixed r′ → r ≡ r′
+one-no-fixed = one-answer
 
 pub one-refused-fixed : (r : Refusal) {a a′ : FixedRead} → RefusedFixed r a → RefusedFixed r a′ → a ≡ a′
 one-refused-fixed r = one-answer

@@ -6,7 +6,7 @@ use mathlib.Core.Path.{_≡_}
 use lib.Dec.{eqb}
 use Rattle.refusal.specs.Answer.{accepted, refused}
 use Rattle.refusal.specs.declared.Refusal.{Refusal}
-use Rattle.fixed.specs.Fixed.{kindOk, letterOk, fixedLowest, settingsLowest, fixedFilled, fixedRead}
+use Rattle.fixed.specs.Fixed.{kindOk, letterOk, fixedLowest, settingsLowest, fixedFilled, noFixed, fixedRead}
 use Rattle.fixed.specs.declared.Fixed.{Fixed}
 use Rattle.fixed.specs.declared.FixedRead.{FixedRead}
 use Rattle.fixed.specs.declared.Settings.{Settings}
@@ -14,6 +14,9 @@ use Rattle.fixed.specs.declared.Lens.{Lens}
 
 abbrev pub AcceptedFixed : Fixed → FixedRead → Type 0
 AcceptedFixed f r = r ≡ fixedRead (accepted f)
+
+abbrev pub NoFixed : Fixed → Type 0
+NoFixed r = r ≡ noFixed
 
 abbrev pub RefusedFixed : Refusal → FixedRead → Type 0
 RefusedFixed r a = a ≡ fixedRead (refused r)

@@ -5,7 +5,7 @@ ghost use mathlib.Core.Path.{_≡_};
 ghost use lib.Dec.{eqb};
 ghost use Rattle.codec.specs.Codec.{textOk};
 ghost use Rattle.fixed.specs.Fixed.{blurOk, lensLowest, fixedLowest};
-ghost use Rattle.fixed.specs.Contracts.{AcceptedFixed, RefusedFixed, IsKind, IsLetter, LowestItem, LowestSetting, AreSettings, FixedFrom};
+ghost use Rattle.fixed.specs.Contracts.{AcceptedFixed, NoFixed, RefusedFixed, IsKind, IsLetter, LowestItem, LowestSetting, AreSettings, FixedFrom};
 
 // How many bytes the contents of the N message take.
 pub const FIXED_LENGTH: usize = 65;
@@ -66,11 +66,11 @@ pub fn accepted_fixed(f: Fixed) -> FixedRead
     }
 }
 
-// Fixed data refused.
-pub fn refused_fixed(r: Refusal) -> FixedRead
-    ensures { λ a. ⌜ RefusedFixed r a ⌝ }
+// Fixed data of zeros.
+pub fn no_fixed() -> Fixed
+    ensures { λ r. ⌜ NoFixed r ⌝ }
 {
-    let contents = Fixed {
+    Fixed {
         serial: [0; 9],
         owner: [0; 31],
         kind: 0,
@@ -79,10 +79,16 @@ pub fn refused_fixed(r: Refusal) -> FixedRead
         letter: 0,
         transmission: 0,
         version: [0; 4],
-    };
+    }
+}
+
+// Fixed data refused.
+pub fn refused_fixed(r: Refusal) -> FixedRead
+    ensures { λ a. ⌜ RefusedFixed r a ⌝ }
+{
     FixedRead {
         verdict: Verdict::Refused(r),
-        contents,
+        contents: no_fixed(),
     }
 }
 

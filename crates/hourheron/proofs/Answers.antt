@@ -35,7 +35,7 @@ fixed-told (refused x) e = rw e
 
 -- ---- a writer: of contents that stand for those handed in
 
-back-wrote : (b : Answer ℕ) → answerTo (wroteOf b) ≡ answerOf b
+pub back-wrote : (b : Answer ℕ) → answerTo (wroteOf b) ≡ answerOf b
 back-wrote (accepted n) = refl
 back-wrote (refused x) = refl
 

@@ -4,18 +4,16 @@ use mathlib.Core.Bool.{Bool}
 use mathlib.Core.List.{List, _++_}
 use mathlib.Core.Logic.{_↔_, Iff·trans, _⊎_, inl, inr}
 use mathlib.Core.Path.{_≡_, refl, sym, ap, _∙_, subst}
-use borrow.Author.Tests.{leb-false, le-leb, lt-leb}
-use lib.Dec.{leb}
 use lib.IntN.{ℤ}
 use lib.ListN.{length, drop}
-use Rattle.laws.proofs.Tests.{told, never}
-use Rattle.refusal.specs.Answer.{Answer, accepted, refused, unless}
+use Rattle.laws.proofs.Tests.{never}
+use Rattle.refusal.specs.Answer.{Answer, accepted, refused}
 use Rattle.refusal.specs.declared.Refusal.{Refusal}
 use Rattle.refusal.specs.declared.Refusal.the-variants.{Room}
 use Rattle.codec.specs.Codec.{Codec}
 use Rattle.codec.specs.Places.{Place}
 use Rattle.frame.specs.Faithful.{Faithful}
-use Rattle.frame.specs.Message.{readOf, messageOf, roomFor, thenWrite, thenLeft, writeOf}
+use Rattle.frame.specs.Message.{readOf, messageOf, thenWrite, thenLeft, writeOf}
 use Rattle.frame.specs.Refuses.{ReadWhen, Refuses}
 use Rattle.frame.proofs.Left.{then-same, then-bytes}
 use Rattle.fixed.specs.Fixed.{fixedLowest}
@@ -23,39 +21,19 @@ use Rattle.fixed.specs.Form.{fixedForm}
 use Rattle.fixed.specs.declared.Fixed.{Fixed}
 use Rattle.units.specs.Units.{Converts, conversion}
 use Rattle.demand2.proofs.Proved.{demand2}
+use Rattle.cut_reader.proofs.Promises.{promised as cut}
 use Rattle.layout.specs.Promises.{Unpacks}
 use Rattle.layout.proofs.Promises.{promised as laid}
 use Rattle.hourheron.specs.Host.{answerOf, conversionOf, Writes, Lays, askedOf}
 use Rattle.hourheron.specs.Promises.{Reads, Written, Converted, Asked, Promised}
 use Rattle.hourheron.specs.declared.Answer as host
 use Rattle.hourheron.specs.declared.Conversion.{Conversion}
+use Rattle.hourheron.proofs.Rooms.{then-accepted, then-refused, room-enough, room-short}
+use Rattle.hourheron.proofs.Recording.{sends, takes}
+use Rattle.hourheron.proofs.Stream.{cut-reader, hands-message}
 use Rattle.hourheron.proofs.Tells.{answers, conversions, was-done, was-refused, no-refusal, done-with, refused-with, tells}
 
 -- ---- the readers
-
--- what is done was accepted
-then-accepted : {A : Type 0} (width : ℕ) (q : Answer A) (out : List ℕ) (n : ℕ) → thenWrite width q out ≡ accepted n → (a : A) × (q ≡ accepted a)
-unfolding thenWrite
-then-accepted width (accepted a) out n e = (a, refl)
-then-accepted width (refused x) out n e = never (cc)
-
--- what is refused was, or is accepted without room
-then-refused : {A : Type 0} (width : ℕ) (q : Answer A) (out : List ℕ) (x : Refusal) → thenWrite width q out ≡ refused x →
-    (q ≡ refused x) ⊎ ((x ≡ Room width) × (length out < width) × ((a : A) × (q ≡ accepted a)))
-unfolding thenWrite roomFor unless
-then-refused width (refused y) out x e = inl (let s : y ≡ x = cc in ap refused s)
-then-refused width (accepted a) out x e =
-    told (leb width (length out))
-    (λ y. never (cc (rw y at e)))
-    (λ n. inr (cc (rw n at e), leb-false width (length out) n, (a, refl)))
-
-room-enough : (n len : ℕ) → n ≤ len → roomFor n len ≡ accepted n
-unfolding roomFor unless
-room-enough n len h = rw (le-leb n len h)
-
-room-short : (n len : ℕ) → len < n → roomFor n len ≡ refused (Room n)
-unfolding roomFor unless
-room-short n len h = rw (lt-leb n len h)
 
 module _ {A : Type 0} (form : Codec A) (rule : A → ℕ) (low : ℕ → Refusal) (plain : ℕ) (places : List Place) (faithful : Faithful form rule low plain)
     (exact : Refuses form rule low plain places) where
@@ -221,4 +199,12 @@ promised = record {
   owner-start = asks _;
   owner-len = asks _;
   collect = λ line byte r after c. (c .answers, c .leaves);
+  cut-text = cut-reader (demand2 .text) (demand2 .text-refuses) (laid .of-record) (cut .text);
+  cut-packed = cut-reader (demand2 .packed) (demand2 .packed-refuses) (laid .of-record) (cut .packed);
+  cut-fixed = cut-reader (demand2 .fixed) (demand2 .fixed-refuses) (laid .of-fixed) (cut .fixed);
+  cut-message = hands-message;
+  recorder-first = λ r e. e;
+  recorder-start = λ packed checksum r e. e;
+  recorder-send = sends;
+  recorder-take = takes;
 }

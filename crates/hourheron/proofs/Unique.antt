@@ -7,9 +7,14 @@ use lib.IntN.{ℤ}
 use Rattle.laws.proofs.OneAnswer.{one-answer, one-outcome}
 use Rattle.line.specs.declared.Line.{Line}
 use Rattle.collector.specs.declared.Collected.{Collected}
-use Rattle.hourheron.specs.Contracts.{HeronConvert, HeronChecksum, HeronWriteText, HeronWritePacked, HeronReadText, HeronReadPacked, HeronWriteFixed, HeronReadFixed, HeronOwnerStart, HeronOwnerLen, HeronCollect}
+use Rattle.cutter.specs.declared.Cutter.{Cutter}
+use Rattle.recorder.specs.declared.Recorder.{Recorder}
+use Rattle.hourheron.specs.Contracts.{HeronConvert, HeronChecksum, HeronWriteText, HeronWritePacked, HeronReadText, HeronReadPacked, HeronWriteFixed, HeronReadFixed, HeronOwnerStart, HeronOwnerLen, HeronCollect, HeronCutTextValue, HeronCutPackedValue, HeronCutFixedValue, HeronCutMessageValue, HeronRecorderFirst, HeronRecorderStart, HeronRecorderSendValue, HeronRecorderTakeValue}
 use Rattle.hourheron.specs.declared.Conversion.{Conversion}
 use Rattle.hourheron.specs.declared.Answer.{Answer}
+use Rattle.hourheron.specs.declared.CutValue.{CutValue}
+use Rattle.hourheron.specs.declared.SendValue.{SendValue}
+use Rattle.hourheron.specs.declared.TakeValue.{TakeValue}
 
 -- ---- the writers
 
@@ -67,3 +72,38 @@ one-heron-checksum bytes = one-answer
 pub one-heron-collect : (line : Line) (byte : ℕ) {r r′ : Collected} {after after′ : Line} →
     HeronCollect line byte r after → HeronCollect line byte r′ after′ → (r ≡ r′) × (after ≡ after′)
 one-heron-collect line byte = one-outcome
+
+-- ---- the cutter
+
+pub one-heron-cut-text-value : (cutter : Cutter) (piece : List ℕ) (checksum : Bool) (out : List ℕ) {r r′ : CutValue} {after after′ : List ℕ} →
+    HeronCutTextValue cutter piece checksum out r after → HeronCutTextValue cutter piece checksum out r′ after′ → (r ≡ r′) × (after ≡ after′)
+one-heron-cut-text-value cutter piece checksum out = one-outcome
+
+pub one-heron-cut-packed-value : (cutter : Cutter) (piece : List ℕ) (checksum : Bool) (out : List ℕ) {r r′ : CutValue} {after after′ : List ℕ} →
+    HeronCutPackedValue cutter piece checksum out r after → HeronCutPackedValue cutter piece checksum out r′ after′ → (r ≡ r′) × (after ≡ after′)
+one-heron-cut-packed-value cutter piece checksum out = one-outcome
+
+pub one-heron-cut-fixed-value : (cutter : Cutter) (piece : List ℕ) (checksum : Bool) (out : List ℕ) {r r′ : CutValue} {after after′ : List ℕ} →
+    HeronCutFixedValue cutter piece checksum out r after → HeronCutFixedValue cutter piece checksum out r′ after′ → (r ≡ r′) × (after ≡ after′)
+one-heron-cut-fixed-value cutter piece checksum out = one-outcome
+
+pub one-heron-cut-message-value : (cutter : Cutter) (piece out : List ℕ) {r r′ : CutValue} {after after′ : List ℕ} →
+    HeronCutMessageValue cutter piece out r after → HeronCutMessageValue cutter piece out r′ after′ → (r ≡ r′) × (after ≡ after′)
+one-heron-cut-message-value cutter piece out = one-outcome
+
+-- ---- the recorder
+
+pub one-heron-recorder-first : {r r′ : Recorder} → HeronRecorderFirst r → HeronRecorderFirst r′ → r ≡ r′
+one-heron-recorder-first = one-answer
+
+pub one-heron-recorder-start : (packed checksum : Bool) {r r′ : Recorder} →
+    HeronRecorderStart packed checksum r → HeronRecorderStart packed checksum r′ → r ≡ r′
+one-heron-recorder-start packed checksum = one-answer
+
+pub one-heron-recorder-send-value : (recorder : Recorder) (out : List ℕ) {r r′ : SendValue} {after after′ : List ℕ} →
+    HeronRecorderSendValue recorder out r after → HeronRecorderSendValue recorder out r′ after′ → (r ≡ r′) × (after ≡ after′)
+one-heron-recorder-send-value recorder out = one-outcome
+
+pub one-heron-recorder-take-value : (recorder : Recorder) (piece out : List ℕ) {r r′ : TakeValue} {after after′ : List ℕ} →
+    HeronRecorderTakeValue recorder piece out r after → HeronRecorderTakeValue recorder piece out r′ after′ → (r ≡ r′) × (after ≡ after′)
+one-heron-recorder-take-value recorder piece out = one-outcome

@@ -15,10 +15,19 @@ use Rattle.units.specs.Units.{conversion}
 use Rattle.line.specs.declared.Line.{Line}
 use Rattle.collector.specs.Collect.{lineAfter, collected}
 use Rattle.collector.specs.declared.Collected.{Collected}
+use Rattle.cutter.specs.Cutter.{wholeIn, wholeLeft}
+use Rattle.cutter.specs.declared.Cutter.{Cutter}
+use Rattle.recorder.specs.Recorder.{firstSetup, startOf, handsOut, sendOf}
+use Rattle.recorder.specs.declared.Recorder.{Recorder}
 use Rattle.layout.specs.Layout.{recordBytes, recordWidth, fixedBytes, fixedWidth}
 use Rattle.hourheron.specs.Host.{answerOf, conversionOf, checksumOf, Writes, recordFrom, fixedFrom, Lays, askedOf}
+use Rattle.hourheron.specs.Cuts.{Cuts, CutsRead}
+use Rattle.hourheron.specs.Takes.{sendTo, Takes}
 use Rattle.hourheron.specs.declared.Conversion.{Conversion}
 use Rattle.hourheron.specs.declared.Answer.{Answer}
+use Rattle.hourheron.specs.declared.CutValue.{CutValue}
+use Rattle.hourheron.specs.declared.SendValue.{SendValue}
+use Rattle.hourheron.specs.declared.TakeValue.{TakeValue}
 
 abbrev pub HeronConvert : ℕ → ℤ → ℕ → ℕ → Conversion → Type 0
 HeronConvert field number unit wanted r = r ≡ conversionOf (conversion field number unit wanted)
@@ -55,3 +64,27 @@ HeronOwnerLen message checksum r = r ≡ answerOf (askedOf ownerLength (readOf f
 
 abbrev pub HeronCollect : Line → ℕ → Collected → Line → Type 0
 HeronCollect line byte r after = Gives (collected line byte) (lineAfter line byte) r after
+
+abbrev pub HeronCutTextValue : Cutter → List ℕ → Bool → List ℕ → CutValue → List ℕ → Type 0
+HeronCutTextValue cutter piece checksum out r after = CutsRead recordBytes recordWidth (readOf textForm checksum) cutter piece out r after
+
+abbrev pub HeronCutPackedValue : Cutter → List ℕ → Bool → List ℕ → CutValue → List ℕ → Type 0
+HeronCutPackedValue cutter piece checksum out r after = CutsRead recordBytes recordWidth (readOf packedForm checksum) cutter piece out r after
+
+abbrev pub HeronCutFixedValue : Cutter → List ℕ → Bool → List ℕ → CutValue → List ℕ → Type 0
+HeronCutFixedValue cutter piece checksum out r after = CutsRead fixedBytes fixedWidth (readOf fixedForm checksum) cutter piece out r after
+
+abbrev pub HeronCutMessageValue : Cutter → List ℕ → List ℕ → CutValue → List ℕ → Type 0
+HeronCutMessageValue cutter piece out r after = Cuts (wholeIn out) wholeLeft cutter piece out r after
+
+abbrev pub HeronRecorderFirst : Recorder → Type 0
+HeronRecorderFirst r = r ≡ startOf firstSetup
+
+abbrev pub HeronRecorderStart : Bool → Bool → Recorder → Type 0
+HeronRecorderStart packed checksum r = r ≡ startOf (record { packed = packed; checksum = checksum })
+
+abbrev pub HeronRecorderSendValue : Recorder → List ℕ → SendValue → List ℕ → Type 0
+HeronRecorderSendValue recorder out r after = Gives (sendTo (sendOf recorder out)) (wholeLeft (handsOut recorder) out) r after
+
+abbrev pub HeronRecorderTakeValue : Recorder → List ℕ → List ℕ → TakeValue → List ℕ → Type 0
+HeronRecorderTakeValue recorder piece out r after = Takes recorder piece out r after

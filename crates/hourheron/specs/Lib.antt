@@ -1,3 +1,6 @@
 pub mod Host
+pub mod Cuts
+pub mod Takes
 pub mod Contracts
+pub mod Stream
 pub mod Promises

@@ -30,12 +30,19 @@ use Rattle.units.specs.Refuses.{ConvertWhen}
 use Rattle.line.specs.declared.Line.{Line}
 use Rattle.collector.specs.Collect.{lineAfter, collected}
 use Rattle.collector.specs.declared.Collected.{Collected}
+use Rattle.cutter.specs.declared.Cutter.{Cutter}
+use Rattle.recorder.specs.Recorder.{firstSetup, startOf}
+use Rattle.recorder.specs.declared.Recorder.{Recorder}
 use Rattle.layout.specs.Layout.{recordBytes, recordWidth, fixedBytes, fixedWidth}
 use Rattle.layout.specs.Unpack.{unpackRecord, unpackFixed}
 use Rattle.hourheron.specs.Host.{answerOf, conversionOf}
-use Rattle.hourheron.specs.Contracts.{HeronConvert, HeronChecksum, HeronWriteText, HeronWritePacked, HeronReadText, HeronReadPacked, HeronWriteFixed, HeronReadFixed, HeronOwnerStart, HeronOwnerLen, HeronCollect}
+use Rattle.hourheron.specs.Contracts.{HeronConvert, HeronChecksum, HeronWriteText, HeronWritePacked, HeronReadText, HeronReadPacked, HeronWriteFixed, HeronReadFixed, HeronOwnerStart, HeronOwnerLen, HeronCollect, HeronCutTextValue, HeronCutPackedValue, HeronCutFixedValue, HeronCutMessageValue, HeronRecorderFirst, HeronRecorderStart, HeronRecorderSendValue, HeronRecorderTakeValue}
+use Rattle.hourheron.specs.Stream.{CutReader, HandsMessage, SendCall, TakeCall}
 use Rattle.hourheron.specs.declared.Conversion.{Conversion}
 use Rattle.hourheron.specs.declared.Answer as host
+use Rattle.hourheron.specs.declared.CutValue.{CutValue}
+use Rattle.hourheron.specs.declared.SendValue.{SendValue}
+use Rattle.hourheron.specs.declared.TakeValue.{TakeValue}
 
 -- ---- the answers
 
@@ -144,3 +151,14 @@ pub record Promised : Type 0 where
   -- (what these two promise is in crate `collector`)
   pub collect : (line : Line) (byte : ℕ) (r : Collected) (after : Line) → HeronCollect line byte r after →
       (r ≡ collected line byte) × (after ≡ lineAfter line byte)
+  -- a stream in pieces, each message by the reader that is named, or handed out
+  pub cut-text : CutReader HeronCutTextValue HeronReadText
+  pub cut-packed : CutReader HeronCutPackedValue HeronReadPacked
+  pub cut-fixed : CutReader HeronCutFixedValue HeronReadFixed
+  pub cut-message : (c : Cutter) (p out : List ℕ) (r : CutValue) (after : List ℕ) → HeronCutMessageValue c p out r after → HandsMessage c p out r after
+  -- the recorder
+  pub recorder-first : (r : Recorder) → HeronRecorderFirst r → r ≡ startOf firstSetup
+  pub recorder-start : (packed checksum : Bool) (r : Recorder) → HeronRecorderStart packed checksum r →
+      r ≡ startOf (record { packed = packed; checksum = checksum })
+  pub recorder-send : (r : Recorder) (out : List ℕ) (v : SendValue) (after : List ℕ) → HeronRecorderSendValue r out v after → SendCall r out v after
+  pub recorder-take : (r : Recorder) (p out : List ℕ) (v : TakeValue) (after : List ℕ) → HeronRecorderTakeValue r p out v after → TakeCall r p out v after

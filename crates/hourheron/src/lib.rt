@@ -1,6 +1,9 @@
 // For a C host: the writers, the readers, the owner's part, the conversion and the checksum, on
-// numbers and byte slices, and the line collector that the host keeps. No rule of the paper stands here.
+// numbers and byte slices; the line collector that the host keeps; and for the camera side the cutter and the
+// recorder, by value. No rule of the paper stands here.
 use collector::Collected;
+use cutter::Cut;
+use cutter::Cutter;
 use fixed::FixedRead;
 use fixed::Lens;
 use frame::Wrote;
@@ -8,16 +11,25 @@ use line::Line;
 use record::Figures;
 use record::Record;
 use record::RecordRead;
+use recorder::Made;
+use recorder::Recorded;
+use recorder::Recorder;
+use recorder::Sending;
+use recorder::Setup;
 use refusal::Refusal;
 use refusal::Verdict;
 use units::Converted;
+ghost use mathlib.Core.Bool.{true};
 ghost use mathlib.Core.Path.{_≡_};
 ghost use Rattle.refusal.specs.Answer.{accepted, refused};
 ghost use Rattle.frame.specs.Message.{roomFor};
 ghost use Rattle.codec.specs.Codec.{filled};
 ghost use Rattle.layout.specs.Layout.{recordBytes, recordWidth, fixedBytes, fixedWidth};
+ghost use Rattle.cutter.specs.Cutter.{fresh};
 ghost use Rattle.hourheron.specs.Host.{answerOf, answerTo, withSerial, toldBy, Lays};
-ghost use Rattle.hourheron.specs.Contracts.{HeronConvert, HeronChecksum, HeronWriteText, HeronWritePacked, HeronReadText, HeronReadPacked, HeronWriteFixed, HeronReadFixed, HeronOwnerStart, HeronOwnerLen, HeronCollect};
+ghost use Rattle.hourheron.specs.Cuts.{cutWith, cutTo};
+ghost use Rattle.hourheron.specs.Takes.{sendTo, answerBeside, LaysMade, LaysTaken};
+ghost use Rattle.hourheron.specs.Contracts.{HeronConvert, HeronChecksum, HeronWriteText, HeronWritePacked, HeronReadText, HeronReadPacked, HeronWriteFixed, HeronReadFixed, HeronOwnerStart, HeronOwnerLen, HeronCollect, HeronCutTextValue, HeronCutPackedValue, HeronCutFixedValue, HeronCutMessageValue, HeronRecorderFirst, HeronRecorderStart, HeronRecorderSendValue, HeronRecorderTakeValue};
 
 // The refusal's number, or 0; and the value that comes with it, or the count.
 #[repr(C)]
@@ -32,6 +44,36 @@ pub struct Conversion {
     pub number: u32,
     pub field: u32,
     pub value: i32,
+}
+
+// What a call makes of a piece of a stream: an answer; how many bytes it used; whether a message ended with them; and
+// the cutter for what follows.
+#[repr(C)]
+pub struct CutValue {
+    pub number: u32,
+    pub value: u64,
+    pub used: usize,
+    pub ended: bool,
+    pub cutter: Cutter,
+}
+
+// What a recorder hands out to be sent.
+#[repr(C)]
+pub struct SendValue {
+    pub number: u32,
+    pub value: u64,
+    pub recorder: Recorder,
+}
+
+// What a recorder makes of a piece: as a cutter, and whether the message was read as fixed data.
+#[repr(C)]
+pub struct TakeValue {
+    pub number: u32,
+    pub value: u64,
+    pub used: usize,
+    pub ended: bool,
+    pub opening: bool,
+    pub recorder: Recorder,
 }
 
 // ---- the answers
@@ -322,4 +364,194 @@ pub extern "C" fn heron_collect(line: &mut Line, byte: u8) -> Collected
     ensures { λ r. ⌜ HeronCollect (now (line .entry)) byte r (now (line .exit)) ⌝ }
 {
     collector::collect(line, byte)
+}
+
+// ---- the cutter
+
+// What a cutter answered.
+fn handed(cut: Cut) -> CutValue
+    ensures { λ r. ⌜ r ≡ cutTo cut ⌝ }
+{
+    let wrote = cut.wrote;
+    let cutter = cut.cutter;
+    let answer = answer_to(wrote);
+    CutValue {
+        number: answer.number,
+        value: answer.value,
+        used: cut.used,
+        ended: cut.ended,
+        cutter,
+    }
+}
+
+// A message ended, and this is the answer to it.
+fn ended(answer: Answer, used: usize) -> CutValue
+    ensures { λ r. ⌜ r ≡ cutWith answer used true fresh ⌝ }
+{
+    CutValue {
+        number: answer.number,
+        value: answer.value,
+        used,
+        ended: true,
+        cutter: Cutter::fresh(),
+    }
+}
+
+// Takes a piece up to the first end of a message, which is read as a text record, or all of it.
+#[no_mangle]
+pub extern "C" fn heron_cut_text_value(
+    cutter: Cutter,
+    piece: &[u8],
+    checksum: bool,
+    out: &mut [u8],
+) -> CutValue
+    ensures { λ r. ⌜ HeronCutTextValue cutter (now (piece .entry)) checksum (now (out .entry)) r (now (out .exit)) ⌝ }
+{
+    let n = cutter.end_in(piece);
+    if n == 0 {
+        return handed(cutter.hold(piece));
+    }
+    let read = cut_reader::read_text(cutter, &piece[0..n], checksum);
+    ended(lay_record(read, out), n)
+}
+
+// Takes a piece up to the first end of a message, which is read as a packed record, or all of it.
+#[no_mangle]
+pub extern "C" fn heron_cut_packed_value(
+    cutter: Cutter,
+    piece: &[u8],
+    checksum: bool,
+    out: &mut [u8],
+) -> CutValue
+    ensures { λ r. ⌜ HeronCutPackedValue cutter (now (piece .entry)) checksum (now (out .entry)) r (now (out .exit)) ⌝ }
+{
+    let n = cutter.end_in(piece);
+    if n == 0 {
+        return handed(cutter.hold(piece));
+    }
+    let read = cut_reader::read_packed(cutter, &piece[0..n], checksum);
+    ended(lay_record(read, out), n)
+}
+
+// Takes a piece up to the first end of a message, which is read as fixed data, or all of it.
+#[no_mangle]
+pub extern "C" fn heron_cut_fixed_value(
+    cutter: Cutter,
+    piece: &[u8],
+    checksum: bool,
+    out: &mut [u8],
+) -> CutValue
+    ensures { λ r. ⌜ HeronCutFixedValue cutter (now (piece .entry)) checksum (now (out .entry)) r (now (out .exit)) ⌝ }
+{
+    let n = cutter.end_in(piece);
+    if n == 0 {
+        return handed(cutter.hold(piece));
+    }
+    let read = cut_reader::read_fixed(cutter, &piece[0..n], checksum);
+    ended(lay_fixed(read, out), n)
+}
+
+// The same with the message itself handed out.
+#[no_mangle]
+pub extern "C" fn heron_cut_message_value(cutter: Cutter, piece: &[u8], out: &mut [u8]) -> CutValue
+    ensures { λ r. ⌜ HeronCutMessageValue cutter (now (piece .entry)) (now (out .entry)) r (now (out .exit)) ⌝ }
+{
+    handed(cutter.cut(piece, out))
+}
+
+// ---- the recorder
+
+// A recorder with the settings that one starts with.
+#[no_mangle]
+pub extern "C" fn heron_recorder_first() -> Recorder
+    ensures { λ r. ⌜ HeronRecorderFirst r ⌝ }
+{
+    Recorder::start(Setup::first())
+}
+
+// A recorder with these settings.
+#[no_mangle]
+pub extern "C" fn heron_recorder_start(packed: bool, checksum: bool) -> Recorder
+    ensures { λ r. ⌜ HeronRecorderStart packed checksum r ⌝ }
+{
+    Recorder::start(Setup { packed, checksum })
+}
+
+fn handed_out(sending: Sending) -> SendValue
+    ensures { λ r. ⌜ r ≡ sendTo sending ⌝ }
+{
+    let wrote = sending.wrote;
+    let recorder = sending.recorder;
+    let answer = answer_to(wrote);
+    SendValue {
+        number: answer.number,
+        value: answer.value,
+        recorder,
+    }
+}
+
+// What it has to send, to the lent memory.
+#[no_mangle]
+pub extern "C" fn heron_recorder_send_value(recorder: Recorder, out: &mut [u8]) -> SendValue
+    ensures { λ r. ⌜ HeronRecorderSendValue recorder (now (out .entry)) r (now (out .exit)) ⌝ }
+{
+    handed_out(recorder.send(out))
+}
+
+// Puts the contents of a message into the lent memory.
+fn lay_made(made: Made, out: &mut [u8]) -> Answer
+    ensures { λ r. ⌜ LaysMade made (now (out .entry)) r (now (out .exit)) ⌝ }
+{
+    let verdict = made.verdict;
+    if made.opening {
+        let contents = made.items;
+        return lay_fixed(FixedRead { verdict, contents }, out);
+    }
+    let contents = made.fields;
+    lay_record(RecordRead { verdict, contents }, out)
+}
+
+// No message ended: 16, or done with nothing.
+fn answer_beside(verdict: Verdict) -> Answer
+    ensures { λ r. ⌜ r ≡ answerBeside verdict ⌝ }
+{
+    match verdict {
+        Verdict::Done => done(0),
+        Verdict::Refused(x) => refuse(x),
+    }
+}
+
+// The answer to a piece: that to the message that ended, where one did.
+fn lay_taken(taken: Recorded, out: &mut [u8]) -> Answer
+    ensures { λ r. ⌜ LaysTaken taken (now (out .entry)) r (now (out .exit)) ⌝ }
+{
+    let made = taken.made;
+    if taken.ended {
+        return lay_made(made, out);
+    }
+    let verdict = made.verdict;
+    answer_beside(verdict)
+}
+
+// Takes a piece up to the first end of a message, which is read as the recorder reads it, or all of it.
+#[no_mangle]
+pub extern "C" fn heron_recorder_take_value(
+    recorder: Recorder,
+    piece: &[u8],
+    out: &mut [u8],
+) -> TakeValue
+    ensures { λ r. ⌜ HeronRecorderTakeValue recorder (now (piece .entry)) (now (out .entry)) r (now (out .exit)) ⌝ }
+{
+    let taken = recorder.take(piece);
+    let made = taken.made;
+    let next = taken.recorder;
+    let answer = lay_taken(taken, out);
+    TakeValue {
+        number: answer.number,
+        value: answer.value,
+        used: taken.used,
+        ended: taken.ended,
+        opening: made.opening,
+        recorder: next,
+    }
 }

@@ -3,7 +3,7 @@ use Prim.Native.Nat.{ℕ}
 use mathlib.Core.Path.{_≡_}
 use Rattle.laws.proofs.OneAnswer.{one-answer}
 use Rattle.refusal.specs.declared.Refusal.{Refusal}
-use Rattle.record.specs.Contracts.{AcceptedRecord, RefusedRecord, LowestFigure, LowestField}
+use Rattle.record.specs.Contracts.{AcceptedRecord, NoRecord, RefusedRecord, LowestFigure, LowestField}
 use Rattle.record.specs.declared.Figures.{Figures}
 use Rattle.record.specs.declared.Record.{Record}
 use Rattle.record.specs.declared.RecordRead.{RecordRead}
@@ -16,6 +16,9 @@ one-lowest-field r = one-answer
 
 pub one-accepted-record : (r : Record) {a a′ : RecordRead} → AcceptedRecord r a → AcceptedRecord r a′ → a ≡ a′
 one-accepted-record r = one-answer
+
+pub one-no-record : {r r′ : Record} → NoRecord r → NoRecord r′ → r ≡ r′
+one-no-record = one-answer
 
 pub one-refused-record : (r : Refusal) {a a′ : RecordRead} → RefusedRecord r a → RefusedRecord r a′ → a ≡ a′
 one-refused-record r = one-answer

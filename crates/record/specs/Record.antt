@@ -66,6 +66,9 @@ noFigures = record {
   zoom = 0;
 }
 
+abbrev pub noRecord : Record
+noRecord = record { figures = noFigures; serial = replicate 9 0 }
+
 abbrev pub recordRead : Answer Record → RecordRead
 recordRead (accepted r) = record { verdict = Done; contents = r }
-recordRead (refused x) = record { verdict = Refused x; contents = record { figures = noFigures; serial = replicate 9 0 } }
+recordRead (refused x) = record { verdict = Refused x; contents = noRecord }

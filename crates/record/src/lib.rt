@@ -4,7 +4,7 @@ use refusal::Refusal;
 use refusal::Verdict;
 ghost use mathlib.Core.Path.{_≡_};
 ghost use Rattle.record.specs.Record.{frontLowest, middleLowest, backLowest};
-ghost use Rattle.record.specs.Contracts.{AcceptedRecord, RefusedRecord, LowestFigure, LowestField};
+ghost use Rattle.record.specs.Contracts.{AcceptedRecord, NoRecord, RefusedRecord, LowestFigure, LowestField};
 
 // How many bytes a record's contents take: as text, and packed.
 pub const TEXT_LENGTH: usize = 74;
@@ -59,9 +59,9 @@ pub fn accepted_record(r: Record) -> RecordRead
     }
 }
 
-// A message refused.
-pub fn refused_record(r: Refusal) -> RecordRead
-    ensures { λ a. ⌜ RefusedRecord r a ⌝ }
+// The record of zeros.
+pub fn no_record() -> Record
+    ensures { λ r. ⌜ NoRecord r ⌝ }
 {
     let figures = Figures {
         focus: 0,
@@ -76,13 +76,19 @@ pub fn refused_record(r: Refusal) -> RecordRead
         pupil: 0,
         zoom: 0,
     };
-    let contents = Record {
+    Record {
         figures,
         serial: [0; 9],
-    };
+    }
+}
+
+// A message refused.
+pub fn refused_record(r: Refusal) -> RecordRead
+    ensures { λ a. ⌜ RefusedRecord r a ⌝ }
+{
     RecordRead {
         verdict: Verdict::Refused(r),
-        contents,
+        contents: no_record(),
     }
 }
 

@@ -18,7 +18,9 @@ pub enum Refusal {
     Dropped,
     // 8: a setting out of range: the lowest item.
     Setting(u32),
-    // 16: a handed-in state or collector that is not one of ours.
+    // 9: a message longer than a cutter holds.
+    TooLong,
+    // 16: a handed-in state, collector or cutter that is not one of ours.
     State,
 }
 
@@ -41,6 +43,7 @@ pub fn number_of(r: Refusal) -> u32
         Refusal::Contents(_) => 6,
         Refusal::Dropped => 7,
         Refusal::Setting(_) => 8,
+        Refusal::TooLong => 9,
         Refusal::State => 16,
     }
 }
@@ -58,6 +61,7 @@ pub fn value_of(r: Refusal) -> usize
         Refusal::Contents(i) => i as usize,
         Refusal::Dropped => 0,
         Refusal::Setting(i) => i as usize,
+        Refusal::TooLong => 0,
         Refusal::State => 0,
     }
 }

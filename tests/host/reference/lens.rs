@@ -326,7 +326,7 @@ fn nearest(n: i32, over: i64, under: i64) -> i32 {
 
 // ---- for a C host: the same, into lent memory; the answer is the count of bytes put there
 
-fn put(bytes: Result<Vec<u8>, Refusal>, out: &mut [u8]) -> Result<usize, Refusal> {
+pub fn put(bytes: Result<Vec<u8>, Refusal>, out: &mut [u8]) -> Result<usize, Refusal> {
     let bytes = bytes?;
     out.get_mut(..bytes.len()).ok_or(refusal(2, bytes.len()))?.copy_from_slice(&bytes);
     Ok(bytes.len())

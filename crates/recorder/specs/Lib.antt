@@ -1,0 +1,4 @@
+pub mod Recorder
+pub mod Contracts
+pub mod Messages
+pub mod Promises

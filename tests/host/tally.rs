@@ -1,0 +1,56 @@
+//! What the cases of each entry came to.
+
+use crate::lens::Refusal;
+
+pub fn hex(bytes: &[u8]) -> String {
+    bytes.iter().map(|b| format!("{b:02X}")).collect::<Vec<_>>().join(" ")
+}
+
+/// How many cases had each number, and (a bit each) which fields or items were refused.
+#[derive(Default)]
+struct Tally {
+    entry: &'static str,
+    numbers: [u64; 17],
+    fields: u32,
+}
+
+impl Tally {
+    fn cases(&self) -> u64 {
+        self.numbers.iter().sum()
+    }
+
+    fn line(&self) -> String {
+        let mut line = format!("{:20} {:>9} cases: done {}", self.entry, self.cases(), self.numbers[0]);
+        for (number, count) in self.numbers.iter().enumerate().skip(1).filter(|(_, &count)| count != 0) {
+            line += &format!(", refused {number}: {count}");
+            if [1, 6, 8].contains(&number) {
+                line += &format!(" (in {} fields)", self.fields.count_ones());
+            }
+        }
+        line
+    }
+}
+
+#[derive(Default)]
+pub struct Tallies(Vec<Tally>);
+
+impl Tallies {
+    pub fn count(&mut self, entry: &'static str, right: Result<usize, Refusal>) {
+        let place = self.0.iter().position(|tally| tally.entry == entry).unwrap_or_else(|| {
+            self.0.push(Tally { entry, ..Tally::default() });
+            self.0.len() - 1
+        });
+        let tally = &mut self.0[place];
+        let Refusal { number, value } = right.err().unwrap_or(Refusal { number: 0, value: 0 });
+        tally.numbers[number as usize] += 1;
+        if [1, 6, 8].contains(&number) && (1..=12).contains(&value) {
+            tally.fields |= 1 << value;
+        }
+    }
+
+    /// A line an entry; the cases in all.
+    pub fn print(&self) -> u64 {
+        self.0.iter().for_each(|tally| println!("{}", tally.line()));
+        self.0.iter().map(Tally::cases).sum()
+    }
+}
