@@ -185,7 +185,7 @@ def scripted(bench):
 
     run = Record(bench, link)
     talk.awaits(b"N\r", "the recorder's first bytes")
-    said = f"heron-bench record: {link}: no fixed data after 2 seconds; still waiting\n"
+    said = f"heron-bench record: {link}: no fixed data after 5 seconds; still waiting\n"
     if not select.select([run.run.stderr], [], [], PATIENCE)[0]:
         raise Wrong(f"{run.words}: says nothing of a silent lens")
     run.run.send_signal(signal.SIGTERM)

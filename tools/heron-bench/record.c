@@ -31,7 +31,7 @@ static const char help[] =
 
 /* In milliseconds: how long the fixed data may take, a byte may stay unsent and the end may last; how long a line is
  * silent that is done; how long a count stays on a terminal. */
-enum { PATIENCE = 2000, SILENCE = 100, COUNT_STAYS = 250 };
+enum { PATIENCE = 5000, SILENCE = 100, COUNT_STAYS = 250 };
 
 typedef struct {
     const char *where;

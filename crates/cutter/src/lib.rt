@@ -10,6 +10,9 @@ ghost use Rattle.cutter.specs.Contracts.{NextEnd, CutterFresh, CutterIsV
 // The bytes that a cutter holds, the LF CR counted.
 pub const CUTTER_LENGTH: usize = 160;
 
+// The bytes that are looked at together.
+const BLOCK: usize = 8;
+
 // The bytes since the last end of a message. A count of one more than it holds stands for any more of them:
 // then only the last byte is kept, in the last place.
 #[repr(C)]
@@ -54,16 +57,16 @@ fn is_quiet(s: &[u8]) -> bool
     all
 }
 
-// A place that no CR stands before: behind the first blocks of eight bytes without one.
+// A place that no CR stands before: behind the first blocks without one.
 fn skip_quiet(s: &[u8]) -> usize
     ensures { λ r. ⌜ BehindQuiet (now (s .entry)) r ⌝ }
 {
     let mut at = 0;
-    while 8 <= s.len() - at {
-        if !is_quiet(&s[at..at + 8]) {
+    while BLOCK <= s.len() - at {
+        if !is_quiet(&s[at..at + BLOCK]) {
             return at;
         }
-        at += 8;
+        at += BLOCK;
     }
     at
 }
