@@ -15,12 +15,11 @@ use library::Converted;
 use messages::*;
 use random::Random;
 use std::process::exit;
-use tally::{hex, Tallies};
+use tally::{hex, Differences, Tallies};
 
 const GUARD: usize = 16;
 const GUARD_BYTE: u8 = 0xEE;
 const LONGEST_ROOM: usize = 160;
-const MOST_REPORTS: u64 = 10;
 
 // ---- records and fixed data, in range or out of it
 
@@ -128,30 +127,16 @@ fn shown_message(m: &[u8], with_sum: bool) -> String {
 }
 
 struct Test {
-    seed: u64,
     random: Random,
     tallies: Tallies,
-    differences: u64,
+    differences: Differences,
 }
 
 impl Test {
-    fn differ(&mut self, entry: &str, input: String, reference: String, library: String) {
-        self.differences += 1;
-        println!("DIFFERENCE in {entry}");
-        println!("  input     {input}");
-        println!("  reference {reference}");
-        println!("  library   {library}");
-        println!("  seed      {}", self.seed);
-        if self.differences == MOST_REPORTS {
-            println!("differential: stopped after {MOST_REPORTS} differences");
-            exit(1);
-        }
-    }
-
     fn compare(&mut self, entry: &'static str, right: Outcome, found: Outcome, input: impl Fn() -> String) {
         self.tallies.count(entry, right);
         if right != found {
-            self.differ(entry, input(), format!("{right:?}"), format!("{found:?}"));
+            self.differences.tell(entry, input(), format!("{right:?}"), format!("{found:?}"));
         }
     }
 
@@ -178,7 +163,7 @@ impl Test {
                 format!("{answer:?}; lent memory {}; guards {guards}", hex(&memory[lent.clone()]))
             };
             let (right, found) = (shown(right_answer, &right), shown(found_answer, &found));
-            self.differ(entry, format!("{}; room {room}", input()), right, found);
+            self.differences.tell(entry, format!("{}; room {room}", input()), right, found);
         }
     }
 
@@ -250,7 +235,7 @@ impl Test {
         self.tallies.count("heron_convert", answer.map(|_| 0));
         if right != found {
             let input = format!("field {field:X}; number {number:X} ({number}); unit {unit:02X}; wanted {wanted:02X}");
-            self.differ("heron_convert", input, format!("{right:?}"), format!("{found:?}"));
+            self.differences.tell("heron_convert", input, format!("{right:?}"), format!("{found:?}"));
         }
     }
 
@@ -484,7 +469,7 @@ fn main() {
     let seed = arguments.next().unwrap_or(1);
     let cases = arguments.next().unwrap_or(1_000_000);
     println!("differential: seed {seed}, {cases} random cases per entry beside the exhaustive ones");
-    let mut test = Test { seed, random: Random(seed), tallies: Tallies::default(), differences: 0 };
+    let mut test = Test { random: Random(seed), tallies: Tallies::default(), differences: Differences::none("differential", seed) };
 
     test.every_room();
     for form in [TEXT, PACKED, FIXED] {
@@ -504,6 +489,6 @@ fn main() {
     }
 
     let total = test.tallies.print();
-    println!("differential: {total} cases, {} differences", test.differences);
-    exit(if test.differences == 0 { 0 } else { 1 });
+    println!("differential: {total} cases, {} differences", test.differences.count);
+    exit(if test.differences.count == 0 { 0 } else { 1 });
 }

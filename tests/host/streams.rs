@@ -24,12 +24,11 @@ use messages::{any_message, Form, FIXED, PACKED, TEXT};
 use random::Random;
 use std::process::exit;
 use stream::{Cut, Outcome, Recorder, Stream, LONGEST, REFUSED};
-use tally::{hex, Tallies};
+use tally::{hex, Differences, Tallies};
 
 const GUARD: usize = 16;
 const GUARD_BYTE: u8 = 0xEE;
 const LONGEST_ROOM: usize = 168;
-const MOST_REPORTS: u64 = 10;
 /// A cutter's count where its message is too long.
 const TOO_LONG: usize = LONGEST + 1;
 
@@ -253,10 +252,9 @@ fn follows(stream: &Stream, at: usize, cut: Cut, before: &Cutter, found: &Cutter
 }
 
 struct Test {
-    seed: u64,
     random: Random,
     tallies: Tallies,
-    differences: u64,
+    differences: Differences,
     /// A cutter whose message is too long, after an x and after LF; and where the two differ.
     too_long: [Cutter; 2],
     last: Vec<usize>,
@@ -271,20 +269,7 @@ impl Test {
             cutter
         });
         let last = (0..HELD).filter(|&place| too_long[0].bytes[place] != too_long[1].bytes[place]).collect();
-        Test { seed, random: Random(seed), tallies: Tallies::default(), differences: 0, too_long, last }
-    }
-
-    fn differ(&mut self, entry: &str, input: String, reference: String, library: String) {
-        self.differences += 1;
-        println!("DIFFERENCE in {entry}");
-        println!("  input     {input}");
-        println!("  reference {reference}");
-        println!("  library   {library}");
-        println!("  seed      {}", self.seed);
-        if self.differences == MOST_REPORTS {
-            println!("streams: stopped after {MOST_REPORTS} differences");
-            exit(1);
-        }
+        Test { random: Random(seed), tallies: Tallies::default(), differences: Differences::none("streams", seed), too_long, last }
     }
 
     /// Other bytes where a cutter holds none.
@@ -388,7 +373,7 @@ impl Test {
             self.tallies.count("no message ended", right.outcome);
         }
         if right != found || !lent.agrees() || !follows(stream, at, right, &before, cutter) {
-            self.differ(
+            self.differences.tell(
                 entry.name,
                 format!("stream {}; from {at} to {to}; checksum {with_sum}; room {room}; cutter {before:?}", hex(&stream.bytes)),
                 format!("{right:?}; memory {}", hex(&lent.right)),
@@ -412,7 +397,7 @@ impl Test {
         self.tallies.count(entry.name, REFUSED.outcome);
         if found != REFUSED || !lent.agrees() || cutter != before {
             let piece = hex(&stream.bytes[at..to]);
-            self.differ(
+            self.differences.tell(
                 entry.name,
                 format!("piece {piece}; checksum {with_sum}; room {room}; cutter {before:?}"),
                 format!("{REFUSED:?}; memory and cutter as they were"),
@@ -452,7 +437,7 @@ impl Test {
         };
         let mut recorder = cut_library::recorder_start(packed, with_sum);
         if recorder != fresh {
-            self.differ("heron_recorder_start", format!("{packed}, {with_sum}"), format!("{fresh:?}"), format!("{recorder:?}"));
+            self.differences.tell("heron_recorder_start", format!("{packed}, {with_sum}"), format!("{fresh:?}"), format!("{recorder:?}"));
         }
         let (cutter, mut bytes) = self.any_cutter();
         recorder.cutter = cutter;
@@ -490,7 +475,7 @@ impl Test {
         let right_recorder = cut_library::Recorder { sent: before.sent || right.is_ok(), ..before };
         self.tallies.count("heron_recorder_send", right);
         if right != found || !lent.agrees() || *recorder != right_recorder {
-            self.differ(
+            self.differences.tell(
                 "heron_recorder_send",
                 format!("room {room}; recorder {before:?}"),
                 format!("{right:?}; memory {}; recorder {right_recorder:?}", hex(&lent.right)),
@@ -518,7 +503,7 @@ impl Test {
         self.tallies.count(name, cut.outcome);
         let rest = cut_library::Recorder { cutter: recorder.cutter, opened: reference.opened(at + cut.used), ..before };
         if right != found || !lent.agrees() || *recorder != rest || !follows(stream, at, cut, &before.cutter, &recorder.cutter) {
-            self.differ(
+            self.differences.tell(
                 "heron_recorder_take",
                 format!("stream {}; from {at} to {to}; room {room}; recorder {before:?}", hex(&stream.bytes)),
                 format!("{right:?}; memory {}; opened {}", hex(&lent.right), rest.opened),
@@ -540,7 +525,7 @@ impl Test {
         self.tallies.count("heron_recorder_send", REFUSED.outcome);
         self.tallies.count("heron_recorder_take, refused", REFUSED.outcome);
         if sent != REFUSED.outcome || !same || taken != (REFUSED, false) || !lent.agrees() || recorder != before {
-            self.differ(
+            self.differences.tell(
                 "heron_recorder_send and heron_recorder_take",
                 format!("piece {}; room {room}; recorder {before:?}", hex(piece)),
                 format!("{REFUSED:?}; memory and recorder as they were"),
@@ -567,7 +552,7 @@ fn main() {
 
     let (first, plain) = (cut_library::recorder_first(), cut_library::recorder_start(false, false));
     if first != plain {
-        test.differ("heron_recorder_first", String::new(), format!("{plain:?}"), format!("{first:?}"));
+        test.differences.tell("heron_recorder_first", String::new(), format!("{plain:?}"), format!("{first:?}"));
     }
     test.every_stream();
     for _ in 0..streams {
@@ -578,6 +563,6 @@ fn main() {
     }
 
     let calls = test.tallies.print();
-    println!("streams: {streams} streams and {recorders} recorders, {calls} calls, {} differences", test.differences);
-    exit(if test.differences == 0 { 0 } else { 1 });
+    println!("streams: {streams} streams and {recorders} recorders, {calls} calls, {} differences", test.differences.count);
+    exit(if test.differences.count == 0 { 0 } else { 1 });
 }

@@ -1,6 +1,9 @@
-//! What the cases of each entry came to.
+//! What the cases of each entry came to, and where the library differs.
 
 use crate::lens::Refusal;
+use std::process::exit;
+
+const MOST_REPORTS: u64 = 10;
 
 pub fn hex(bytes: &[u8]) -> String {
     bytes.iter().map(|b| format!("{b:02X}")).collect::<Vec<_>>().join(" ")
@@ -52,5 +55,32 @@ impl Tallies {
     pub fn print(&self) -> u64 {
         self.0.iter().for_each(|tally| println!("{}", tally.line()));
         self.0.iter().map(Tally::cases).sum()
+    }
+}
+
+/// The differences that a program has found with its seed.
+pub struct Differences {
+    program: &'static str,
+    seed: u64,
+    pub count: u64,
+}
+
+impl Differences {
+    pub fn none(program: &'static str, seed: u64) -> Differences {
+        Differences { program, seed, count: 0 }
+    }
+
+    /// One more: told, and the last of them ends the program.
+    pub fn tell(&mut self, entry: &str, input: String, reference: String, library: String) {
+        self.count += 1;
+        println!("DIFFERENCE in {entry}");
+        println!("  input     {input}");
+        println!("  reference {reference}");
+        println!("  library   {library}");
+        println!("  seed      {}", self.seed);
+        if self.count == MOST_REPORTS {
+            println!("{}: stopped after {MOST_REPORTS} differences", self.program);
+            exit(1);
+        }
     }
 }
