@@ -6,6 +6,8 @@
  * count that is allowed and on counts past it; then CASES random lines are sent byte by byte. Exit status 1 if something
  * is wrong. */
 #define _DEFAULT_SOURCE
+#include "random.h"
+
 #include <hourheron.h>
 #include <inttypes.h>
 #include <stdio.h>
@@ -16,16 +18,7 @@
 enum { RETURN = 13 };
 
 static unsigned long checks, wrong;
-static uint64_t random_state;
 static heron_line *collectors[2];
-
-static uint64_t random_next(void) /* splitmix64 */
-{
-    uint64_t z = random_state += 0x9E3779B97F4A7C15u;
-    z = (z ^ (z >> 30)) * 0xBF58476D1CE4E5B9u;
-    z = (z ^ (z >> 27)) * 0x94D049BB133111EBu;
-    return z ^ (z >> 31);
-}
 
 static bool same_line(const heron_line *a, const heron_line *b)
 {

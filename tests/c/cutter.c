@@ -7,6 +7,8 @@
  * own entry answers to each. Piece, output and cutter or recorder lie between pages that nobody may touch, at the end of
  * their own page or at its start; a piece is read-only. CASES is the number of random streams. Exit status 1 if something is wrong. */
 #define _DEFAULT_SOURCE
+#include "random.h"
+
 #include <hourheron.h>
 #include <inttypes.h>
 #include <stdarg.h>
@@ -17,10 +19,9 @@
 
 enum { LF = 10, CR = 13, FILL = 0xEE, MOST = 1200 };
 
-/* ---- what is reported, and random numbers (splitmix64) */
+/* ---- what is reported, and random numbers */
 
 static unsigned long checks, wrong, seen[17];
-static uint64_t random_state;
 
 __attribute__((format(printf, 2, 3))) static void check(bool holds, const char *format, ...)
 {
@@ -33,14 +34,6 @@ __attribute__((format(printf, 2, 3))) static void check(bool holds, const char *
     vprintf(format, given);
     putchar('\n');
     va_end(given);
-}
-
-static uint64_t random_next(void)
-{
-    uint64_t z = random_state += 0x9E3779B97F4A7C15u;
-    z = (z ^ (z >> 30)) * 0xBF58476D1CE4E5B9u;
-    z = (z ^ (z >> 27)) * 0x94D049BB133111EBu;
-    return z ^ (z >> 31);
 }
 
 static size_t random_below(size_t n)

@@ -8,6 +8,8 @@
  * before it, read or written, ends the program. Input is read-only. The rest of an output's page is filled and must stay so.
  * Exit status 1 if an answer or a byte is wrong. */
 #define _DEFAULT_SOURCE
+#include "random.h"
+
 #include <hourheron.h>
 #include <inttypes.h>
 #include <stdarg.h>
@@ -42,17 +44,7 @@ static void check_answer(heron_answer got, uint32_t number, uint64_t value, cons
           value);
 }
 
-/* ---- random numbers (splitmix64) */
-
-static uint64_t random_state;
-
-static uint64_t random_next(void)
-{
-    uint64_t z = random_state += 0x9E3779B97F4A7C15u;
-    z = (z ^ (z >> 30)) * 0xBF58476D1CE4E5B9u;
-    z = (z ^ (z >> 27)) * 0x94D049BB133111EBu;
-    return z ^ (z >> 31);
-}
+/* ---- random numbers */
 
 static uint32_t random_below(uint32_t n)
 {
