@@ -25,7 +25,7 @@
 #include <stdint.h>
 #include <string.h>
 
-#define HOURHERON_VERSION "0.2.0"
+#define HOURHERON_VERSION "0.3.0"
 
 /* ---- lengths in bytes */
 

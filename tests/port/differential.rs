@@ -1,5 +1,6 @@
 //! Compares the events program with the reference port (../host/reference/port.rs) on random runs from a start: commands of all
-//! kinds, slots, lent buffers and measurements at varied densities, with each start-up letter. Exit status 1 on a difference.
+//! kinds, slots, lent buffers and measurements at varied densities, with each start-up letter; and P at every temperature. Exit
+//! status 1 on a difference.
 //!
 //! On the reference's side it also counts, independently of the proof, demand 3's three spans of slots, and fails if one is past
 //! its bound or if a refusal that the events can give did not occur.
@@ -160,20 +161,41 @@ impl Script {
                 _ => random.next() as i64,
             };
         }
+        self.measured(unit, numbers);
+    }
+
+    fn measured(&mut self, unit: u8, numbers: [i64; 12]) {
         self.input.extend([b'M', unit]);
         self.input.extend(numbers.iter().flat_map(|&n| (n as i32).to_le_bytes()));
         self.events += 1;
+    }
+
+    /// P at every temperature and one past either end, plain and then with checksum.
+    fn temperatures(&mut self) {
+        for mode in [b"N", b"G"] {
+            self.asked(mode, 80);
+            for temperature in -100..=200 {
+                self.measured(b'I', [798, 680, 56, 5, 0, 6123, 711, 909, 273, 23, 0, temperature]);
+                self.asked(b"P", 8);
+            }
+        }
+    }
+
+    /// A command's line, and slots enough to be acted on and answered.
+    fn asked(&mut self, line: &[u8], slots: usize) {
+        for &byte in line {
+            self.receive(byte);
+        }
+        self.receive(CR);
+        self.slots(slots);
     }
 
     /// Some commands, each with slots enough to be acted on; then lines at this pace.
     fn part(&mut self, pace: &Pace) {
         for _ in 0..self.random.below(4) {
             let kinds: &[&[u8]] = self.random.pick(&[&[b"N"], &[b"G"], &[b"Ka"], &[b"C", b"Kc"], &[b"X", b"Y"], &[b"H"]]);
-            for byte in self.command(kinds) {
-                self.receive(byte);
-            }
-            self.receive(CR);
-            self.slots(160);
+            let line = self.command(kinds);
+            self.asked(&line, 160);
         }
         for _ in 0..self.random.below(200) {
             match self.random.below(20) {
@@ -444,6 +466,9 @@ fn main() {
         let run = tally.runs;
         let letter = LETTERS[(run % 4) as usize];
         let mut script = Script { random: Random(seeds.next()), input: Vec::new(), events: 0 };
+        if run == 0 {
+            script.temperatures();
+        }
         script.run();
         let output = printed(&program, letter, &script.input).unwrap_or_else(|error| {
             eprintln!("port: {program}: {error}");

@@ -124,6 +124,7 @@ static const struct reply {
     {"K3", "maker"},
     {"K4", "type name"},
     {"Kb", "rate number"},
+    {"PFF", "temperature below 0 degrees"},
     {"P", "temperature in degrees"},
     {"V", "blur circle in mm"},
     {"W", "blur circle in mm"},

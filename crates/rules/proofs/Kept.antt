@@ -14,6 +14,7 @@ use Rattle.fixed.specs.declared.Settings.{Settings}
 use Rattle.units.specs.Units.{isUnit}
 use Rattle.units.specs.Measurement.{measurementVerdict}
 use Rattle.units.specs.declared.Measurement.{Measurement}
+use Rattle.units.proofs.Degrees.{degrees-long}
 use Rattle.line.specs.declared.Line.{Line}
 use Rattle.line.specs.Command.{commandOf, InRange}
 use Rattle.line.specs.declared.Command.{Command}
@@ -29,7 +30,7 @@ use Rattle.rules.specs.Does.{Outcome, withModes, filmNow, rateNext, rate
 use Rattle.rules.specs.Lens.{Given, measurement, measured, updated, Good, longestReply}
 use Rattle.rules.proofs.Valid.{Valid, done-is, valid-told, valid-made, untouched-valid}
 use Rattle.rules.proofs.Readings.{untouched}
-use Rattle.rules.proofs.Lengths.{framed-at-most, items-told, degrees-long, blur-long, fixed-long, record-body}
+use Rattle.rules.proofs.Lengths.{framed-at-most, items-told, blur-long, fixed-long, record-body}
 
 -- ---- the effects
 

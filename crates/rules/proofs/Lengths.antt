@@ -5,7 +5,6 @@ use mathlib.Core.List.{List, [], _∷_}
 use mathlib.Core.Path.{_≡_, refl, ap, _∙_}
 use native.Mathlib.Nat.{le-of-eq}
 use native.Mathlib.Omega.{arith}
-use lib.IntN.{ℤ}
 use lib.ListN.{length, getD}
 use Rattle.codec.specs.Codec.{textOk}
 use Rattle.codec.proofs.Texts.{text-long}
@@ -20,7 +19,6 @@ use Rattle.fixed.specs.Fixed.{fixedLowest, settingsLowest}
 use Rattle.fixed.specs.Form.{fixedLength, fixedForm}
 use Rattle.fixed.specs.declared.Settings.{Settings}
 use Rattle.fixed.proofs.Exact.{fixed-form-exact, fixed-lowest, fixed-form-width}
-use Rattle.units.specs.Measurement.{degrees}
 use Rattle.units.proofs.Ranges.{sendable-in-either-unit}
 use Rattle.state.specs.declared.Source.{Source}
 use Rattle.state.specs.declared.Sending.{Sending}
@@ -72,9 +70,6 @@ items-told s h =
     }
 
 -- ---- the numbers
-
-pub degrees-long : (t : ℤ) → length (degrees t) ≡ 2
-degrees-long t = length-digits 10 48 (omega arith) 2 _
 
 pub blur-long : (n : ℕ) (s : Settings) → length (blurOf n s) ≡ 6
 blur-long n s = ap (λ (k : ℕ). suc (suc (suc k))) (length-digits 10 48 (omega arith) 3 (getD (s .blur) n 0))

@@ -1,16 +1,20 @@
--- The table says what the readings ask, for every source: each by computing its line. Assumes nothing.
+-- The table says what the readings ask, for every source: each by computing its line, P's with the laws of `degrees`. Assumes nothing.
+use Prim.Native.Nat.{ℕ}
 use mathlib.Core.Bool.{Bool, false}
-use mathlib.Core.Path.{_≡_, refl, ap}
-use borrow.Author.Tests.{eq-eqb, eqb-true, le-leb, lt-leb}
+use mathlib.Core.List.{List, _∷_}
+use mathlib.Core.Path.{_≡_, refl, ap, _∙_}
+use lib.IntN.{ℤ, pos, negsuc}
+use borrow.Author.Tests.{eq-eqb, eqb-true}
 use Rattle.digits.specs.Digits.{digits}
-use Rattle.frame.specs.Frame.{xorFrom, sumOf, ending}
+use Rattle.frame.specs.Frame.{xorFrom, sumOf, ending, framed}
 use Rattle.line.specs.Line.{CR, ends}
 use Rattle.line.specs.declared.Command.{Command}
 use Rattle.line.specs.declared.Command.the-variants.{B, C, D, G, H, Ka, Kb, Kc, Kd, K3, K4, N, P, «V», W, X, Y, Unknown}
 use Rattle.state.specs.declared.State.{State}
 use Rattle.state.specs.declared.Sending.{Sending}
 use Rattle.state.specs.declared.Source.{Source}
-use Rattle.units.specs.Measurement.{shown}
+use Rattle.units.specs.Measurement.{degrees}
+use Rattle.units.proofs.Degrees.{degrees-mild, degrees-cold, degrees-hot}
 use Rattle.rules.specs.Does.{withModes, turned, replies, silent, runs, isN, readies}
 use Rattle.rules.specs.Readings.{Untouched, Readings}
 
@@ -52,8 +56,13 @@ pub untouched : (s : Source) (state : State) (x : Sending) (checksum inhibit : B
     }))
 untouched s state x checksum inhibit = record { settings = refl; measurement = refl; film = refl; unit = refl; rate = refl; next-rate = refl }
 
+-- P's reply from what is sent of the temperature
+p-sends : (s : Source) {t : ℤ} {body : List ℕ} → s .measurement .temperature ≡ t → degrees t ≡ body → runs s P .reply ≡ framed (s .modes .checksum) (80 ∷ body)
+unfolding replies runs
+p-sends s e f = ap (λ (x : List ℕ). framed (s .modes .checksum) (80 ∷ x)) (ap degrees e ∙ f)
+
 pub readings : (s : Source) → Readings s
-unfolding ends turned shown digits replies silent runs isN readies xorFrom sumOf ending
+unfolding ends turned digits replies silent runs isN readies xorFrom sumOf ending
 readings s = record {
   ends-at-cr = λ l b. (λ e. eqb-true b CR e, λ e. eq-eqb b CR e);
   start-ready = λ u. refl;
@@ -76,9 +85,9 @@ readings s = record {
   w-film = λ n. refl;
   rate-waits = λ n. refl;
   rate-moves = λ n. refl;
-  mild = λ n h. rw (le-leb n 99 h);
-  cold = λ n. refl;
-  hot = λ n h. rw (lt-leb n 99 h);
+  mild = λ n h e. p-sends s e (degrees-mild (pos n) refl h);
+  cold = λ n e. p-sends s e (degrees-cold (negsuc n) refl);
+  hot = λ n h e. p-sends s e (degrees-hot (pos n) refl h);
   inhibited = λ e. rw e;
   ready-wakes = refl;
   ready-n = refl;

@@ -10,11 +10,10 @@ use Rattle.frame.specs.Frame.{framed}
 use Rattle.fixed.specs.Form.{fixedForm}
 use Rattle.line.specs.declared.Line.{Line}
 use Rattle.line.specs.declared.Command.{Command}
-use Rattle.line.specs.declared.Command.the-variants.{C, G, H, Ka, Kb, Kc, N, «V», W, X, Y, Unknown}
+use Rattle.line.specs.declared.Command.the-variants.{C, G, H, Ka, Kb, Kc, N, P, «V», W, X, Y, Unknown}
 use Rattle.state.specs.declared.State.the-variants.{Ready, Running}
 use Rattle.state.specs.declared.Sending.the-variants as sending
 use Rattle.state.specs.declared.Source.{Source}
-use Rattle.units.specs.Measurement.{degrees}
 use Rattle.rules.specs.Does.{runs, readies}
 use Rattle.rules.specs.Lens.{startModes, lens}
 
@@ -62,10 +61,10 @@ pub record Readings (s : Source) : Type 0 where
   -- the rate number changes at the end of Kb's reply, not before
   pub rate-waits : (n : ℕ) → runs s (Kb n) .source .modes .rate ≡ s .modes .rate
   pub rate-moves : (n : ℕ) → lens .ended (runs s (Kb n) .source) .modes .rate ≡ n
-  -- two digits; below 0 sends 00, above 99 sends 99
-  pub mild : (n : ℕ) → n ≤ 99 → degrees (pos n) ≡ decimal 2 n
-  pub cold : (n : ℕ) → degrees (negsuc n) ≡ 48 ∷ 48 ∷ []
-  pub hot : (n : ℕ) → 99 < n → degrees (pos n) ≡ 57 ∷ 57 ∷ []
+  -- P sends two digits; below 0 the letters FF, above 99 99; under the checksum like every reply
+  pub mild : (n : ℕ) → n ≤ 99 → s .measurement .temperature ≡ pos n → runs s P .reply ≡ framed (s .modes .checksum) (80 ∷ decimal 2 n)
+  pub cold : (n : ℕ) → s .measurement .temperature ≡ negsuc n → runs s P .reply ≡ framed (s .modes .checksum) (80 ∷ 70 ∷ 70 ∷ [])
+  pub hot : (n : ℕ) → 99 < n → s .measurement .temperature ≡ pos n → runs s P .reply ≡ framed (s .modes .checksum) (80 ∷ 57 ∷ 57 ∷ [])
   -- inhibited, an unknown command has no reply
   pub inhibited : s .modes .inhibit ≡ true → runs s Unknown .reply ≡ []
   -- in ready N answers the fixed data and moves to running; everything else answers < and does nothing

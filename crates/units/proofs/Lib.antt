@@ -1,5 +1,6 @@
 pub mod Nearest
 pub mod Ranges
+pub mod Degrees
 pub mod Table
 pub mod Promises
 pub mod Unique

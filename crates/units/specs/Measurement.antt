@@ -1,7 +1,7 @@
 -- What a measurement may hold, how P shows its temperature, and the record that it gives in a display unit.
 use Prim.Native.Nat.{ℕ}
 use mathlib.Core.Bool.{Bool, _&&_, cond}
-use mathlib.Core.List.{List}
+use mathlib.Core.List.{List, [], _∷_}
 use lib.Dec.{leb, eqb}
 use lib.IntN.{ℤ, pos, negsuc}
 use lib.Signed.{leZ}
@@ -21,12 +21,9 @@ use Rattle.units.specs.declared.Measurement.{Measurement}
 abbrev pub temperatureOk : ℤ → Bool
 temperatureOk t = leZ (negsuc 98) t && leZ t (pos 199)
 
--- P's two digits: below 0 sends 00, above 99 sends 99
-unfoldable pub shown : ℤ → ℕ
-shown t = cond (below0 t) 0 (cond (leb (size t) 99) (size t) 99)
-
-abbrev pub degrees : ℤ → List ℕ
-degrees t = decimal 2 (shown t)
+-- what P sends: below 0 the letters FF (001, section 5.1.6), else two digits, above 99 those of 99
+unfoldable pub degrees : ℤ → List ℕ
+degrees t = cond (below0 t) (70 ∷ 70 ∷ []) (decimal 2 (cond (leb (size t) 99) (size t) 99))
 
 -- the lowest of fields 1 to 11 out of its unit's range, then 13 for the temperature; 0 where there is none
 unfoldable pub measurementLowest : Measurement → ℕ

@@ -191,6 +191,15 @@ fn two_digits(n: u8) -> [u8; 2] {
     [b'0' + n / 10, b'0' + n % 10]
 }
 
+/// A temperature's two characters: FF below zero, 99 above 99 (001, section 5.1.6).
+fn degrees(t: i32) -> [u8; 2] {
+    match t {
+        ..=-1 => *b"FF",
+        0..=99 => two_digits(t as u8),
+        100.. => *b"99",
+    }
+}
+
 fn three_digits(n: u16) -> [u8; 3] {
     [b'0' + (n / 100) as u8, b'0' + (n / 10 % 10) as u8, b'0' + (n % 10) as u8]
 }
@@ -446,7 +455,7 @@ impl Port {
             Command::Maker => plain(&[b"K3", &self.settings.maker]),
             Command::TypeName => plain(&[b"K4", &self.settings.type_name]),
             Command::Fixed => self.fixed_data(),
-            Command::Temperature => plain(&[b"P", &two_digits(self.measurement.temperature.clamp(0, 99) as u8)]),
+            Command::Temperature => plain(&[b"P", &degrees(self.measurement.temperature)]),
             Command::Film(letter, film) => plain(&[&[letter], b"0.0", &three_digits(self.settings.blur[usize::from(film)])]),
             Command::Unit(letter, ..) => plain(&[&[letter]]),
             Command::Unknown => plain(&[b"?"]),
