@@ -161,27 +161,28 @@ impl Script {
                 _ => random.next() as i64,
             };
         }
-        self.measured(unit, numbers);
+        self.measured(unit, numbers.map(|n| n as i32));
     }
 
-    fn measured(&mut self, unit: u8, numbers: [i64; 12]) {
+    /// A measurement of fields 1 to 11 and the temperature.
+    fn measured(&mut self, unit: u8, numbers: impl IntoIterator<Item = i32>) {
         self.input.extend([b'M', unit]);
-        self.input.extend(numbers.iter().flat_map(|&n| (n as i32).to_le_bytes()));
+        self.input.extend(numbers.into_iter().flat_map(i32::to_le_bytes));
         self.events += 1;
     }
 
     /// P at every temperature and one past either end, plain and then with checksum.
     fn temperatures(&mut self) {
-        for mode in [b"N", b"G"] {
-            self.asked(mode, 80);
+        for first in [b"N", b"G"] {
+            self.asked(first, 80);
             for temperature in -100..=200 {
-                self.measured(b'I', [798, 680, 56, 5, 0, 6123, 711, 909, 273, 23, 0, temperature]);
+                self.measured(b'I', events::FIELDS_OF_R.into_iter().chain([temperature]));
                 self.asked(b"P", 8);
             }
         }
     }
 
-    /// A command's line, and slots enough to be acted on and answered.
+    /// A command's line, then so many slots.
     fn asked(&mut self, line: &[u8], slots: usize) {
         for &byte in line {
             self.receive(byte);

@@ -124,7 +124,6 @@ static const struct reply {
     {"K3", "maker"},
     {"K4", "type name"},
     {"Kb", "rate number"},
-    {"PFF", "temperature below 0 degrees"},
     {"P", "temperature in degrees"},
     {"V", "blur circle in mm"},
     {"W", "blur circle in mm"},
@@ -162,6 +161,12 @@ static heron_answer open_reply(const buffer *m, const struct reply *reply, bool 
     return (heron_answer){HERON_DONE, len};
 }
 
+/* What a reply says, by its bytes before the ending: PFF is no number of degrees. */
+static const char *reply_words(const struct reply *reply, const uint8_t *bytes, size_t len)
+{
+    return len == 3 && memcmp(bytes, "PFF", len) == 0 ? "temperature below 0 degrees" : reply->words;
+}
+
 bool report_reply(const buffer *m, bool checksum)
 {
     const struct reply *reply = reply_starting(m);
@@ -175,8 +180,9 @@ bool report_reply(const buffer *m, bool checksum)
         print_refusal(stdout, NO_FORM, checksum, opened);
         return false;
     }
-    printf("%zu bytes: %s, ", m->len, reply->words);
-    print_quoted(m->bytes, (size_t)opened.value);
+    size_t len = (size_t)opened.value;
+    printf("%zu bytes: %s, ", m->len, reply_words(reply, m->bytes, len));
+    print_quoted(m->bytes, len);
     putchar('\n');
     return true;
 }

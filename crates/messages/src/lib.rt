@@ -12,8 +12,8 @@ ghost use mathlib.Core.Bool.{true};
 ghost use mathlib.Core.List.{_∷_};
 ghost use Prim.Native.Nat.{_+_, _≤_};
 ghost use lib.ListN.{length};
-ghost use Rattle.digits.specs.Digits.{decimal};
 ghost use Rattle.frame.specs.Frame.{endingWidth, framed};
+ghost use Rattle.units.specs.Measurement.{degrees};
 ghost use Rattle.state.specs.State.{messageLength, unsent};
 ghost use Rattle.messages.specs.Built.{closedOf};
 ghost use Rattle.messages.specs.Contracts.{LetterMessage, VersionMessage, MakerMessage, TypeMessage, RateMessage, FixedMessage, DegreesMessage, BlurMessage, TextMessage, PackedMessage};
@@ -90,27 +90,30 @@ pub fn fixed_message(fixed: Fixed, checksum: bool) -> Message
     closed(bytes, FIXED_LENGTH, checksum)
 }
 
-// P and two digits.
-fn digits_message(n: u32, checksum: bool) -> Message
-    ensures { λ r. ⌜ r ≡ unsent (framed checksum (80 ∷ decimal 2 n)) ⌝ }
-{
-    let mut bytes = [0u8; MESSAGE_LENGTH];
-    codec::put_tagged(&mut bytes, 0, b'P', 2, n);
-    closed(bytes, 3, checksum)
-}
-
-// P and the temperature: below 0 the letters FF, else two digits, above 99 those of 99.
-pub fn degrees_message(t: i32, checksum: bool) -> Message
-    ensures { λ r. ⌜ DegreesMessage t checksum r ⌝ }
+// What P sends of a temperature: below 0 the letters FF, else two digits, above 99 those of 99.
+fn degrees_of(t: i32) -> [u8; 2]
+    ensures { λ r. ⌜ r ≡ degrees t ⌝ }
 {
     let n = sign::size_of(t);
     if sign::is_below(t) {
-        return named(b'P', b'F', b"F", checksum);
+        return *b"FF";
     }
+    let mut shown = *b"99";
     if n <= 99 {
-        return digits_message(n, checksum);
+        digits::put_decimal(&mut shown, 0, 2, n);
     }
-    digits_message(99, checksum)
+    shown
+}
+
+// P and the degrees.
+pub fn degrees_message(t: i32, checksum: bool) -> Message
+    ensures { λ r. ⌜ DegreesMessage t checksum r ⌝ }
+{
+    let shown = degrees_of(t);
+    let mut bytes = [0u8; MESSAGE_LENGTH];
+    lent::put_byte(&mut bytes, 0, b'P');
+    lent::put_text(&mut bytes, 1, &shown);
+    closed(bytes, 3, checksum)
 }
 
 // A letter, 0.0 and the three digits of a blur circle.

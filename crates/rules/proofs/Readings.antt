@@ -5,6 +5,7 @@ use mathlib.Core.List.{List, _∷_}
 use mathlib.Core.Path.{_≡_, refl, ap, _∙_}
 use lib.IntN.{ℤ, pos, negsuc}
 use borrow.Author.Tests.{eq-eqb, eqb-true}
+use Rattle.laws.proofs.Tests.{told}
 use Rattle.digits.specs.Digits.{digits}
 use Rattle.frame.specs.Frame.{xorFrom, sumOf, ending, framed}
 use Rattle.line.specs.Line.{CR, ends}
@@ -88,6 +89,14 @@ readings s = record {
   mild = λ n h e. p-sends s e (degrees-mild (pos n) refl h);
   cold = λ n e. p-sends s e (degrees-cold (negsuc n) refl);
   hot = λ n h e. p-sends s e (degrees-hot (pos n) refl h);
+  b-asks = refl;
+  d-asks = refl;
+  kd-asks = refl;
+  k3-asks = refl;
+  k4-asks = refl;
+  n-asks = refl;
+  p-asks = refl;
+  unknown-asks = told (s .modes .inhibit) (λ e. rw e) (λ e. rw e);
   inhibited = λ e. rw e;
   ready-wakes = refl;
   ready-n = refl;

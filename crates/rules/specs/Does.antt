@@ -1,4 +1,4 @@
--- What a command does, and what it answers: document 01's table, line by line. Letters stand as their bytes: 33 is !, 60 is <, 63 is ?.
+-- What a command does, and what it answers: document 01's table as the requests amend it, line by line. Letters stand as their bytes: 33 is !, 60 is <, 63 is ?.
 use Prim.Native.Nat.{ℕ, _+_}
 use mathlib.Core.Bool.{Bool, true, false, _||_, cond}
 use mathlib.Core.List.{List, [], _∷_}

@@ -10,7 +10,7 @@ use Rattle.frame.specs.Frame.{framed}
 use Rattle.fixed.specs.Form.{fixedForm}
 use Rattle.line.specs.declared.Line.{Line}
 use Rattle.line.specs.declared.Command.{Command}
-use Rattle.line.specs.declared.Command.the-variants.{C, G, H, Ka, Kb, Kc, N, P, «V», W, X, Y, Unknown}
+use Rattle.line.specs.declared.Command.the-variants.{B, C, D, G, H, Ka, Kb, Kc, Kd, K3, K4, N, P, «V», W, X, Y, Unknown}
 use Rattle.state.specs.declared.State.the-variants.{Ready, Running}
 use Rattle.state.specs.declared.Sending.the-variants as sending
 use Rattle.state.specs.declared.Source.{Source}
@@ -61,10 +61,19 @@ pub record Readings (s : Source) : Type 0 where
   -- the rate number changes at the end of Kb's reply, not before
   pub rate-waits : (n : ℕ) → runs s (Kb n) .source .modes .rate ≡ s .modes .rate
   pub rate-moves : (n : ℕ) → lens .ended (runs s (Kb n) .source) .modes .rate ≡ n
-  -- P sends two digits; below 0 the letters FF, above 99 99; under the checksum like every reply
+  -- P and two characters: below 0 the letters FF, else two digits, above 99 those of 99; the checksum covers them
   pub mild : (n : ℕ) → n ≤ 99 → s .measurement .temperature ≡ pos n → runs s P .reply ≡ framed (s .modes .checksum) (80 ∷ decimal 2 n)
   pub cold : (n : ℕ) → s .measurement .temperature ≡ negsuc n → runs s P .reply ≡ framed (s .modes .checksum) (80 ∷ 70 ∷ 70 ∷ [])
   pub hot : (n : ℕ) → 99 < n → s .measurement .temperature ≡ pos n → runs s P .reply ≡ framed (s .modes .checksum) (80 ∷ 57 ∷ 57 ∷ [])
+  -- what only asks, and an unknown command, changes nothing
+  pub b-asks : runs s B .source ≡ s
+  pub d-asks : runs s D .source ≡ s
+  pub kd-asks : runs s Kd .source ≡ s
+  pub k3-asks : runs s K3 .source ≡ s
+  pub k4-asks : runs s K4 .source ≡ s
+  pub n-asks : runs s N .source ≡ s
+  pub p-asks : runs s P .source ≡ s
+  pub unknown-asks : runs s Unknown .source ≡ s
   -- inhibited, an unknown command has no reply
   pub inhibited : s .modes .inhibit ≡ true → runs s Unknown .reply ≡ []
   -- in ready N answers the fixed data and moves to running; everything else answers < and does nothing

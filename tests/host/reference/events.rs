@@ -41,6 +41,9 @@ fn measurement(bytes: &[u8]) -> Measurement {
     Measurement { unit: bytes[0], fields: std::array::from_fn(|_| next()), temperature: next() }
 }
 
+/// Fields 1 to 11 of record R.
+pub const FIELDS_OF_R: [i32; 11] = [798, 680, 56, 5, 0, 6123, 711, 909, 273, 23, 0];
+
 /// The session program's lens: its settings with this start-up letter, and its measurement.
 pub struct Lens {
     pub port: Port,
@@ -62,8 +65,7 @@ impl Lens {
             type_name: [b' '; 30],
             blur: [250; 32],
         };
-        let fields = [798, 680, 56, 5, 0, 6123, 711, 909, 273, 23, 0];
-        let port = Port::start(settings, Measurement { unit: b'I', fields, temperature: 21 })?;
+        let port = Port::start(settings, Measurement { unit: b'I', fields: FIELDS_OF_R, temperature: 21 })?;
         Ok(Lens { port, line: Line::empty() })
     }
 

@@ -1,4 +1,4 @@
-//! The port in plain Rust, written from document 01 alone: start, receive, slot, fill and measure.
+//! The port in plain Rust, written from document 01 and the requests alone: start, receive, slot, fill and measure.
 //!
 //! The records and the fixed data are written by the module `forms` of the program that takes this file in: lens.rs in the
 //! tests, the benchmark's own writers in bench/. The state is private and each change keeps it in range, so that refusal 16
@@ -191,12 +191,12 @@ fn two_digits(n: u8) -> [u8; 2] {
     [b'0' + n / 10, b'0' + n % 10]
 }
 
-/// A temperature's two characters: FF below zero, 99 above 99 (001, section 5.1.6).
+/// A temperature's two characters: FF below zero, 99 above 99 (request [2]).
 fn degrees(t: i32) -> [u8; 2] {
     match t {
-        ..=-1 => *b"FF",
+        _ if t < 0 => *b"FF",
         0..=99 => two_digits(t as u8),
-        100.. => *b"99",
+        _ => *b"99",
     }
 }
 

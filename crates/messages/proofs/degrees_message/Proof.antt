@@ -1,87 +1,64 @@
--- `messages::degrees_message` meets its contract: each return is P and what one law of `degrees` says of its case. Assumes nothing.
-use Prim.Native.Nat.{ℕ, _≤_, _<_}
-use mathlib.Core.Bool.{Bool}
-use mathlib.Core.List.{List, _∷_}
-use mathlib.Core.Path.{_≡_, sym, ap, subst, _∙_}
-use lib.IntN.{ℤ}
-use mir.Syntax.{w32}
-use mir.Val.{toZ, ofZ}
+-- `messages::degrees_message` meets its contract: P, the degrees behind it, ended. Assumes nothing.
+use Prim.Native.Nat.{ℕ, suc}
+use mathlib.Core.List.{List, [], _∷_}
+use mathlib.Core.Path.{_≡_, refl, ap, _∙_}
+use native.Mathlib.Omega.{arith}
 use mir.Facts.{toZ-ofZ}
-use Rattle.digits.specs.Digits.{decimal}
-use Rattle.sign.specs.Sign.{size, below0}
+use lib.ListN.{length}
+use Rattle.laws.proofs.OverLaws.{onto}
 use Rattle.frame.specs.Frame.{framed}
 use Rattle.units.specs.Measurement.{degrees}
-use Rattle.units.proofs.Degrees.{degrees-cold, degrees-mild, degrees-hot}
-use Rattle.state.specs.declared.Message.{Message}
-use Rattle.state.specs.State.{unsent}
+use Rattle.units.proofs.Degrees.{degrees-long}
+use Rattle.state.specs.State.{zeros, unsent}
+use Rattle.messages.proofs.Laws.{closed-is}
 use borrow.Author.Needs.{needs}
 use Rattle.messages.proofs.degrees_message.Statement.{statement}
 use Rattle.messages.proofs.degrees_message.Tie as tie
 
--- the number that the calls take is the caller's own
-own : (b : tie.Start) → toZ w32 (ofZ w32 (b .args .t)) ≡ b .args .t
-own b = toZ-ofZ (b .fits .t)
+degrees-of-requires : tie.Need-degrees-of-requires
+degrees-of-requires c κs = search needs
 
-sized : (c : tie.After-size-of) → c .size-of .result ≡ size (c .before .args .t)
-sized c = c .size-of .ensures ∙ ap size (own (c .before))
+slice-aggregate-put-byte : tie.Need-slice-aggregate-put-byte
+slice-aggregate-put-byte c = search needs
 
-below : (c : tie.After-is-below) → c .is-below .result ≡ below0 (c .before .before .args .t)
-below c = c .is-below .ensures ∙ ap below0 (own (c .before .before))
+put-byte-requires : tie.Need-put-byte-requires
+put-byte-requires c κs = search needs
 
--- a message of P and what is sent of the temperature
-sends : (t : ℤ) (checksum : Bool) {body : List ℕ} {m : Message} → m ≡ unsent (framed checksum (80 ∷ body)) → degrees t ≡ body → m ≡ unsent (framed checksum (80 ∷ degrees t))
-sends t checksum e law = e ∙ ap (λ (x : List ℕ). unsent (framed checksum (80 ∷ x))) (sym law)
+slice-aggregate-put-text : tie.Need-slice-aggregate-put-text
+slice-aggregate-put-text c = search needs
 
-size-of-requires : tie.Need-size-of-requires
-size-of-requires c κs = search needs
+slice-aggregate-put-text-2 : tie.Need-slice-aggregate-put-text-2
+slice-aggregate-put-text-2 c = search needs
 
-is-below-requires : tie.Need-is-below-requires
-is-below-requires c κs = search needs
+put-text-requires : tie.Need-put-text-requires
+put-text-requires c κs = search needs
 
-slice-aggregate-named : tie.Need-slice-aggregate-named
-slice-aggregate-named c = search needs
-
-named-requires : tie.Need-named-requires
-named-requires c κs = search needs
+closed-requires : tie.Need-closed-requires
+closed-requires c κs = search needs
 
 returns : tie.Need-returns
+unfolding zeros
 returns c =
-    let b = c .before .before in
-    let a = b .before .before .before .args in
-    sends (a .t) (a .checksum) (c .named .ensures) (degrees-cold (a .t) (sym (below (b .before)) ∙ b .if1 .taken))
-
-digits-message-requires : tie.Need-digits-message-requires
-digits-message-requires c κs = search needs
-
-returns-2 : tie.Need-returns-2
-returns-2 c =
-    let b = c .before .before .before in
-    let a = b .before .before .args in
-    let e = sized (b .before) in
-    sends (a .t) (a .checksum) (c .digits-message .ensures)
-    (degrees-mild (a .t) (sym (below b) ∙ c .before .before .if1 .left) (subst (λ (n : ℕ). n ≤ 99) e (c .before .if2 .taken))
-    ∙ ap (decimal 2) (sym e))
-
-digits-message-requires-2 : tie.Need-digits-message-requires-2
-digits-message-requires-2 c κs = search needs
-
-returns-3 : tie.Need-returns-3
-returns-3 c =
-    let b = c .before .before .before in
-    let a = b .before .before .args in
-    sends (a .t) (a .checksum) (c .digits-message2 .ensures)
-    (degrees-hot (a .t) (sym (below b) ∙ c .before .before .if1 .left) (subst (λ (n : ℕ). 99 < n) (sized (b .before)) (c .before .if2 .left)))
+    let text = c .before .before in
+    let byte = text .before .before .before .before in
+    let called = byte .before .before in
+    let a = called .before .args in
+    let shown = called .degrees-of .result in
+    let is : shown ≡ degrees (a .t) = called .degrees-of .ensures ∙ ap degrees (toZ-ofZ (called .before .fits .t)) in
+    let long : length shown ≡ 2 = ap length is ∙ degrees-long (a .t) in
+    closed-is (80 ∷ shown) 3 (ap suc long) (omega arith) (a .checksum) (c .closed .ensures)
+    (onto zeros (80 ∷ []) shown 0 1 (byte .put-byte .ensures) (text .put-text .ensures) refl (omega (arith, long)))
+    ∙ ap (λ (x : List ℕ). unsent (framed (a .checksum) (80 ∷ x))) is
 
 pub degrees-message-spec : {M : Type 1} → statement M
 degrees-message-spec =
     tie.close
     (tie.spec
-    size-of-requires
-    is-below-requires
-    slice-aggregate-named
-    named-requires
-    returns
-    digits-message-requires
-    returns-2
-    digits-message-requires-2
-    returns-3)
+    degrees-of-requires
+    slice-aggregate-put-byte
+    put-byte-requires
+    slice-aggregate-put-text
+    slice-aggregate-put-text-2
+    put-text-requires
+    closed-requires
+    returns)
