@@ -94,10 +94,10 @@ pub fn fixed_message(fixed: Fixed, checksum: bool) -> Message
 fn degrees_of(t: i32) -> [u8; 2]
     ensures { λ r. ⌜ r ≡ degrees t ⌝ }
 {
-    let n = sign::size_of(t);
     if sign::is_below(t) {
         return *b"FF";
     }
+    let n = sign::size_of(t);
     let mut shown = *b"99";
     if n <= 99 {
         digits::put_decimal(&mut shown, 0, 2, n);

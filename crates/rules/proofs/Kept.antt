@@ -29,7 +29,7 @@ use Rattle.state.specs.State.{isDone, validSource}
 use Rattle.rules.specs.Does.{Outcome, withModes, filmNow, rateNext, rateMoved, unitWith, turned, letterNow, isOn, continuous, replies, silent, runs, isN, wakes, readies, doesIn, does, countsIn, counts}
 use Rattle.rules.specs.Lens.{Given, measurement, measured, updated, Good, longestReply}
 use Rattle.rules.proofs.Valid.{Valid, done-is, valid-told, valid-made, untouched-valid}
-use Rattle.rules.proofs.Readings.{untouched}
+use Rattle.rules.proofs.Readings.{untouched, readings}
 use Rattle.rules.proofs.Lengths.{framed-at-most, items-told, blur-long, fixed-long, record-body}
 
 -- ---- the effects
@@ -165,11 +165,6 @@ unfolding readies replies
 readies-sending s c = told (isN c) (λ e. rw e) (λ e. rw e)
 
 -- no command goes back to ready
-unknown-state : (inhibit : Bool) (s : Source) → cond inhibit (silent s) (replies s (63 ∷ [])) .source ≡ s
-unfolding replies silent
-unknown-state true s = refl
-unknown-state false s = refl
-
 runs-state : (s : Source) (c : Command) → runs s c .source .modes .state ≡ s .modes .state
 unfolding runs replies
 runs-state s B = refl
@@ -189,7 +184,7 @@ runs-state s «V» = refl
 runs-state s (W n) = refl
 runs-state s X = refl
 runs-state s Y = refl
-runs-state s Unknown = ap (λ (x : Source). x .modes .state) (unknown-state (s .modes .inhibit) s)
+runs-state s Unknown = ap (λ (x : Source). x .modes .state) (readings s .unknown-keeps)
 
 -- where what a command answers does not count as a reply, continuous sending is off
 pub uncounted-off : (s : Source) (l : Line) → Good s → counts s l ≡ false → continuous (does s l .source) ≡ false

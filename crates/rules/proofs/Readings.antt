@@ -9,6 +9,7 @@ use Rattle.laws.proofs.Tests.{told}
 use Rattle.digits.specs.Digits.{digits}
 use Rattle.frame.specs.Frame.{xorFrom, sumOf, ending, framed}
 use Rattle.line.specs.Line.{CR, ends}
+use Rattle.line.specs.declared.Line.{Line}
 use Rattle.line.specs.declared.Command.{Command}
 use Rattle.line.specs.declared.Command.the-variants.{B, C, D, G, H, Ka, Kb, Kc, Kd, K3, K4, N, P, «V», W, X, Y, Unknown}
 use Rattle.state.specs.declared.State.{State}
@@ -16,7 +17,8 @@ use Rattle.state.specs.declared.Sending.{Sending}
 use Rattle.state.specs.declared.Source.{Source}
 use Rattle.units.specs.Measurement.{degrees}
 use Rattle.units.proofs.Degrees.{degrees-mild, degrees-cold, degrees-hot}
-use Rattle.rules.specs.Does.{withModes, turned, replies, silent, runs, isN, readies}
+use Rattle.rules.specs.Does.{withModes, turned, replies, silent, runs, isN, readies, doesIn, does}
+use Rattle.rules.specs.Lens.{lens}
 use Rattle.rules.specs.Readings.{Untouched, Readings}
 
 -- a command but N is not N
@@ -57,19 +59,26 @@ pub untouched : (s : Source) (state : State) (x : Sending) (checksum inhibit : B
     }))
 untouched s state x checksum inhibit = record { settings = refl; measurement = refl; film = refl; unit = refl; rate = refl; next-rate = refl }
 
+-- the lens in a state, by the decision of that state
+by-state : (s : Source) (l : Line) {k : State} → s .modes .state ≡ k → (lens .act s l ≡ doesIn k s l .source) × (lens .replyTo s l ≡ doesIn k s l .reply)
+unfolding does
+by-state s l e = (ap (λ (k : State). doesIn k s l .source) e, ap (λ (k : State). doesIn k s l .reply) e)
+
 -- P's reply from what is sent of the temperature
 p-sends : (s : Source) {t : ℤ} {body : List ℕ} → s .measurement .temperature ≡ t → degrees t ≡ body → runs s P .reply ≡ framed (s .modes .checksum) (80 ∷ body)
 unfolding replies runs
 p-sends s e f = ap (λ (x : List ℕ). framed (s .modes .checksum) (80 ∷ x)) (ap degrees e ∙ f)
 
 pub readings : (s : Source) → Readings s
-unfolding ends turned digits replies silent runs isN readies xorFrom sumOf ending
+unfolding ends turned digits replies silent runs isN readies doesIn xorFrom sumOf ending
 readings s = record {
   ends-at-cr = λ l b. (λ e. eqb-true b CR e, λ e. eq-eqb b CR e);
   start-ready = λ u. refl;
   start-off = λ u. (refl, (refl, refl));
   start-film = λ u. refl;
   start-rate = λ u. (refl, refl);
+  ready-acts = λ l. by-state s l;
+  running-acts = λ l. by-state s l;
   g-answers = refl;
   h-answers = refl;
   c-keeps = untouched s _ _ _ _;
@@ -96,7 +105,7 @@ readings s = record {
   k4-asks = refl;
   n-asks = refl;
   p-asks = refl;
-  unknown-asks = told (s .modes .inhibit) (λ e. rw e) (λ e. rw e);
+  unknown-keeps = told (s .modes .inhibit) (λ e. rw e) (λ e. rw e);
   inhibited = λ e. rw e;
   ready-wakes = refl;
   ready-n = refl;

@@ -1,4 +1,4 @@
--- Readings of document 01's table that have gone wrong, and the equations that shut them out.
+-- Readings of the table that have gone wrong, and the equations that shut them out; it is document 01's as the requests amend it.
 use Prim.Native.Nat.{ℕ, _≤_, _<_}
 use mathlib.Core.Bool.{true, false}
 use mathlib.Core.List.{[], _∷_}
@@ -9,6 +9,7 @@ use Rattle.digits.specs.Digits.{decimal}
 use Rattle.frame.specs.Frame.{framed}
 use Rattle.fixed.specs.Form.{fixedForm}
 use Rattle.line.specs.declared.Line.{Line}
+use Rattle.line.specs.Command.{commandOf}
 use Rattle.line.specs.declared.Command.{Command}
 use Rattle.line.specs.declared.Command.the-variants.{B, C, D, G, H, Ka, Kb, Kc, Kd, K3, K4, N, P, «V», W, X, Y, Unknown}
 use Rattle.state.specs.declared.State.the-variants.{Ready, Running}
@@ -40,6 +41,9 @@ pub record Readings (s : Source) : Type 0 where
   pub start-off : (u : ℕ) → (startModes u .sending ≡ sending.Off) × ((startModes u .checksum ≡ false) × (startModes u .inhibit ≡ false))
   pub start-film : (u : ℕ) → startModes u .film ≡ 0
   pub start-rate : (u : ℕ) → (startModes u .rate ≡ 6) × (startModes u .«next_rate» ≡ 6)
+  -- the lens acts on a line and answers it by the table: in ready and in running by its own rows, of the command that the line is
+  pub ready-acts : (l : Line) → s .modes .state ≡ Ready → (lens .act s l ≡ readies s (commandOf l) .source) × (lens .replyTo s l ≡ readies s (commandOf l) .reply)
+  pub running-acts : (l : Line) → s .modes .state ≡ Running → (lens .act s l ≡ runs s (commandOf l) .source) × (lens .replyTo s l ≡ runs s (commandOf l) .reply)
   -- replies are written under the modes after the command, the checksum not over LF CR: G answers !MN, H plain !
   pub g-answers : runs s G .reply ≡ 33 ∷ 77 ∷ 78 ∷ 10 ∷ 13 ∷ []
   pub h-answers : runs s H .reply ≡ 33 ∷ 10 ∷ 13 ∷ []
@@ -73,7 +77,7 @@ pub record Readings (s : Source) : Type 0 where
   pub k4-asks : runs s K4 .source ≡ s
   pub n-asks : runs s N .source ≡ s
   pub p-asks : runs s P .source ≡ s
-  pub unknown-asks : runs s Unknown .source ≡ s
+  pub unknown-keeps : runs s Unknown .source ≡ s
   -- inhibited, an unknown command has no reply
   pub inhibited : s .modes .inhibit ≡ true → runs s Unknown .reply ≡ []
   -- in ready N answers the fixed data and moves to running; everything else answers < and does nothing

@@ -194,7 +194,7 @@ fn two_digits(n: u8) -> [u8; 2] {
 /// A temperature's two characters: FF below zero, 99 above 99 (request [2]).
 fn degrees(t: i32) -> [u8; 2] {
     match t {
-        _ if t < 0 => *b"FF",
+        i32::MIN..=-1 => *b"FF",
         0..=99 => two_digits(t as u8),
         _ => *b"99",
     }

@@ -16,14 +16,11 @@ use Rattle.messages.proofs.degrees_of.Tie as tie
 own : (b : tie.Start) → toZ w32 (ofZ w32 (b .args .t)) ≡ b .args .t
 own b = toZ-ofZ (b .fits .t)
 
-sized : (c : tie.After-size-of) → c .size-of .result ≡ size (c .before .args .t)
-sized c = c .size-of .ensures ∙ ap size (own (c .before))
+sized : (c : tie.After-size-of) → c .size-of .result ≡ size (c .before .before .before .args .t)
+sized c = c .size-of .ensures ∙ ap size (own (c .before .before .before))
 
-below : (c : tie.After-is-below) → c .is-below .result ≡ below0 (c .before .before .args .t)
-below c = c .is-below .ensures ∙ ap below0 (own (c .before .before))
-
-size-of-requires : tie.Need-size-of-requires
-size-of-requires c κs = search needs
+below : (c : tie.After-is-below) → c .is-below .result ≡ below0 (c .before .args .t)
+below c = c .is-below .ensures ∙ ap below0 (own (c .before))
 
 is-below-requires : tie.Need-is-below-requires
 is-below-requires c κs = search needs
@@ -32,6 +29,9 @@ returns : tie.Need-returns
 returns c =
     let b = c .before .before in
     sym (degrees-cold _ (sym (below (b .before)) ∙ b .if1 .taken))
+
+size-of-requires : tie.Need-size-of-requires
+size-of-requires c κs = search needs
 
 slice-aggregate-put-decimal : tie.Need-slice-aggregate-put-decimal
 slice-aggregate-put-decimal c = search needs
@@ -44,24 +44,26 @@ returns-2 : tie.Need-returns-2
 unfolding over digits
 returns-2 c =
     let a = c .before .before .before in
-    let b = a .before .before .before in
-    let e = sized (b .before .before) in
-    let law = degrees-mild _ (sym (below (b .before)) ∙ b .if1 .left) (subst (λ (n : ℕ). n ≤ 99) e (a .if2 .taken)) in
+    let n = a .before .before .before in
+    let b = n .before in
+    let e = sized n in
+    let law = degrees-mild _ (sym (below (b .before)) ∙ b .if1 .left) (subst (λ (k : ℕ). k ≤ 99) e (a .if2 .taken)) in
     c .before .put-decimal .ensures ∙ ap (decimal 2) e ∙ sym law
 
 returns-3 : tie.Need-returns-3
 unfolding digits
 returns-3 c =
-    let b = c .before .before .before in
-    sym (degrees-hot _ (sym (below (b .before)) ∙ b .if1 .left) (subst (λ (n : ℕ). 99 < n) (sized (b .before .before)) (c .if2 .left)))
+    let n = c .before .before .before in
+    let b = n .before in
+    sym (degrees-hot _ (sym (below (b .before)) ∙ b .if1 .left) (subst (λ (k : ℕ). 99 < k) (sized n) (c .if2 .left)))
 
 pub degrees-of-spec : {M : Type 1} → statement M
 degrees-of-spec =
     tie.close
     (tie.spec
-    size-of-requires
     is-below-requires
     returns
+    size-of-requires
     slice-aggregate-put-decimal
     put-decimal-requires
     returns-2
