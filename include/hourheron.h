@@ -25,7 +25,7 @@
 #include <stdint.h>
 #include <string.h>
 
-#define HOURHERON_VERSION "0.3.0"
+#define HOURHERON_VERSION "0.4.0"
 
 /* ---- lengths in bytes */
 
@@ -60,7 +60,7 @@
 
 /* ---- refusals */
 
-/* The numbers, with what is in `value` beside each. 7 is the port's: no function below answers it. */
+/* The numbers, with what is in `value` beside each. 7 is the port's and 10 the replay's: no function below answers them. */
 enum heron_refusal {
     HERON_DONE = 0,     /* done: the count or what the function says */
     HERON_FIELD = 1,    /* a field out of range: the lowest one; 0 for a unit letter, 13 for a temperature */
@@ -72,6 +72,7 @@ enum heron_refusal {
     HERON_DROPPED = 7,  /* a line is dropped */
     HERON_SETTING = 8,  /* a setting out of range: the lowest item */
     HERON_TOO_LONG = 9, /* a message of a stream longer than a cutter holds */
+    HERON_FORM = 10,    /* a line of a capture of other form */
     HERON_STATE = 16    /* a handed-in state, collector or cutter that is not valid */
 };
 
@@ -89,6 +90,7 @@ static inline const char *heron_refusal_name(uint32_t number)
     case HERON_DROPPED: return "line dropped";
     case HERON_SETTING: return "setting out of range";
     case HERON_TOO_LONG: return "message too long";
+    case HERON_FORM: return "line of other form";
     case HERON_STATE: return "state not valid";
     default: return "no refusal number";
     }

@@ -8,7 +8,7 @@ use mathlib.Core.Path.{_≡_}
 use lib.ListN.{length}
 use Rattle.refusal.specs.Answer.{accepted, refused}
 use Rattle.refusal.specs.declared.Refusal.{Refusal}
-use Rattle.refusal.specs.declared.Refusal.the-variants.{Field, Room, Length, End, Checksum, Contents, Dropped, Setting, TooLong, State}
+use Rattle.refusal.specs.declared.Refusal.the-variants.{Field, Room, Length, End, Checksum, Contents, Dropped, Setting, TooLong, Form, State}
 use Rattle.codec.specs.Codec.{Codec}
 use Rattle.codec.specs.Places.{Place, FirstWrong}
 use Rattle.frame.specs.Frame.{framed}
@@ -44,6 +44,7 @@ module _ {A : Type 0} (rule : A → ℕ) (print : A → List ℕ) (places : List
   ReadWhen Dropped = ⊥
   ReadWhen (Setting i) = ⊥
   ReadWhen TooLong = ⊥
+  ReadWhen Form = ⊥
   ReadWhen State = ⊥
 
 -- ---- a writer is handed contents and lent memory

@@ -3,3 +3,4 @@ pub mod OneAnswer
 pub mod OverLaws
 pub mod EveryLaws
 pub mod ListLaws
+pub mod Range

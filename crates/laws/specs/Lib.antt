@@ -1,3 +1,4 @@
 pub mod Every
 pub mod Gives
 pub mod Over
+pub mod Within

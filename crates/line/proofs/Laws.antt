@@ -8,9 +8,10 @@ use native.Mathlib.Omega.{arith}
 use borrow.Author.Tests.{le-leb, leb-true, ltb-true}
 use lib.Dec.{leb, ltb}
 use Rattle.laws.proofs.Tests.{told, cond-yes}
-use Rattle.line.proofs.Range.{at-most}
+use Rattle.laws.specs.Within.{within}
+use Rattle.laws.proofs.Range.{at-most}
 use Rattle.line.specs.Line.{lineLength, blank, joined, validLine}
-use Rattle.line.specs.Command.{oneByte, afterK, twoBytes, within, afterKb, filmOf, afterW, threeBytes, commandIn, commandOf, InRange}
+use Rattle.line.specs.Command.{oneByte, afterK, twoBytes, afterKb, filmOf, afterW, threeBytes, commandIn, commandOf, InRange}
 use Rattle.line.specs.declared.Line.{Line}
 use Rattle.line.specs.declared.Command.{Command}
 use Rattle.line.specs.declared.Command.the-variants.{B, C, D, G, H, Ka, Kb, Kc, Kd, K3, K4, N, P, «V», W, X, Y, Unknown}

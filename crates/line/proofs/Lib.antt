@@ -1,4 +1,3 @@
-pub mod Range
 pub mod Bytes
 pub mod Laws
 pub mod Unique

@@ -5,6 +5,7 @@ use mathlib.Core.Path.{_≡_}
 use mathlib.Core.List.{List, [], _∷_}
 use lib.Dec.{leb, eqb}
 use lib.ListN.{take}
+use Rattle.laws.specs.Within.{within}
 use Rattle.line.specs.Line.{validLine}
 use Rattle.line.specs.declared.Line.{Line}
 use Rattle.line.specs.declared.Command.{Command}
@@ -37,10 +38,6 @@ afterK b =
 -- K (75) and what follows it
 unfoldable pub twoBytes : ℕ → ℕ → Command
 twoBytes a b = cond (eqb a 75) (afterK b) Unknown
-
--- a range, its ends in it
-unfoldable pub within : ℕ → ℕ → ℕ → Bool
-within low high x = leb low x && leb x high
 
 -- after Kb: a digit 0..7 (48 is the digit 0)
 unfoldable pub afterKb : ℕ → Command

@@ -7,7 +7,7 @@ use lib.Dec.{eqb}
 use Rattle.refusal.specs.Refusal.{numberOf, valueOf}
 use Rattle.refusal.specs.Promises.{Numbers}
 use Rattle.refusal.specs.declared.Refusal.{Refusal}
-use Rattle.refusal.specs.declared.Refusal.the-variants.{Field, Room, Length, End, Checksum, Contents, Dropped, Setting, TooLong, State}
+use Rattle.refusal.specs.declared.Refusal.the-variants.{Field, Room, Length, End, Checksum, Contents, Dropped, Setting, TooLong, Form, State}
 
 -- the refusal with this number and value; 16 for a number that is none
 abbrev refusalBy : ℕ → ℕ → Refusal
@@ -20,7 +20,8 @@ refusalBy n v =
     (cond (eqb n 6) (Contents v)
     (cond (eqb n 7) Dropped
     (cond (eqb n 8) (Setting v)
-    (cond (eqb n 9) TooLong State))))))))
+    (cond (eqb n 9) TooLong
+    (cond (eqb n 10) Form State)))))))))
 
 back : (x : Refusal) → refusalBy (numberOf x) (valueOf x) ≡ x
 back (Field i) = refl
@@ -32,6 +33,7 @@ back (Contents i) = refl
 back Dropped = refl
 back (Setting i) = refl
 back TooLong = refl
+back Form = refl
 back State = refl
 
 not-zero : (x : Refusal) → numberOf x ≡ 0 → ⊥
@@ -44,6 +46,7 @@ not-zero (Contents i) e = absurd (omega arith)
 not-zero Dropped e = absurd (omega arith)
 not-zero (Setting i) e = absurd (omega arith)
 not-zero TooLong e = absurd (omega arith)
+not-zero Form e = absurd (omega arith)
 not-zero State e = absurd (omega arith)
 
 pub numbers : Numbers

@@ -1,7 +1,7 @@
 -- Document 01's table of refusal numbers.
 use Prim.Native.Nat.{ℕ}
 use Rattle.refusal.specs.declared.Refusal.{Refusal}
-use Rattle.refusal.specs.declared.Refusal.the-variants.{Field, Room, Length, End, Checksum, Contents, Dropped, Setting, TooLong, State}
+use Rattle.refusal.specs.declared.Refusal.the-variants.{Field, Room, Length, End, Checksum, Contents, Dropped, Setting, TooLong, Form, State}
 
 -- the column 'No.'
 abbrev pub numberOf : Refusal → ℕ
@@ -14,6 +14,7 @@ numberOf (Contents i) = 6
 numberOf Dropped = 7
 numberOf (Setting i) = 8
 numberOf TooLong = 9
+numberOf Form = 10
 numberOf State = 16
 
 -- the column 'Also returned'
@@ -27,4 +28,5 @@ valueOf (Contents i) = i
 valueOf Dropped = 0
 valueOf (Setting i) = i
 valueOf TooLong = 0
+valueOf Form = 0
 valueOf State = 0

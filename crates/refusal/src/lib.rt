@@ -20,6 +20,8 @@ pub enum Refusal {
     Setting(u32),
     // 9: a message longer than a cutter holds.
     TooLong,
+    // 10: a line of a capture of other form than its three.
+    Form,
     // 16: a handed-in state, collector or cutter that is not one of ours.
     State,
 }
@@ -44,6 +46,7 @@ pub fn number_of(r: Refusal) -> u32
         Refusal::Dropped => 7,
         Refusal::Setting(_) => 8,
         Refusal::TooLong => 9,
+        Refusal::Form => 10,
         Refusal::State => 16,
     }
 }
@@ -62,6 +65,7 @@ pub fn value_of(r: Refusal) -> usize
         Refusal::Dropped => 0,
         Refusal::Setting(i) => i as usize,
         Refusal::TooLong => 0,
+        Refusal::Form => 0,
         Refusal::State => 0,
     }
 }

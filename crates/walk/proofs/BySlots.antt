@@ -13,12 +13,12 @@ use Rattle.walk.proofs.Calls.{fill-is, reached}
 
 -- ---- calls end to end
 
-after-append : (h : Held) (cs ds : List Call) → afterAll h (cs ++ ds) ≡ afterAll (afterAll h cs) ds
+pub after-append : (h : Held) (cs ds : List Call) → afterAll h (cs ++ ds) ≡ afterAll (afterAll h cs) ds
 unfolding afterAll
 after-append h [] ds = refl
 after-append h (c ∷ cs) ds = after-append (after h c) cs ds
 
-bytes-append : (h : Held) (cs ds : List Call) → bytesAll h (cs ++ ds) ≡ bytesAll h cs ++ bytesAll (afterAll h cs) ds
+pub bytes-append : (h : Held) (cs ds : List Call) → bytesAll h (cs ++ ds) ≡ bytesAll h cs ++ bytesAll (afterAll h cs) ds
 unfolding afterAll bytesAll
 bytes-append h [] ds = refl
 bytes-append h (c ∷ cs) ds = ap (λ (x : List ℕ). bytes h c ++ x) (bytes-append (after h c) cs ds) ∙ sym (append-assoc (bytes h c) _ _)

@@ -1,6 +1,6 @@
 -- `line::after_kb` meets its contract: each arm is a side of the range. Assumes nothing.
 use native.Mathlib.Omega.{arith}
-use Rattle.line.proofs.Range.{inside, below, above}
+use Rattle.laws.proofs.Range.{inside, below, above}
 use Rattle.line.specs.Command.{afterKb}
 use Rattle.line.proofs.after_kb.Statement.{statement}
 use Rattle.line.proofs.after_kb.Tie as tie

@@ -1,7 +1,7 @@
 -- `line::after_w` meets its contract: each arm tells on which side of the digits its byte is. Assumes nothing.
 use native.Mathlib.Omega.{arith}
 use borrow.Author.Needs.{needs}
-use Rattle.line.proofs.Range.{inside, below, above}
+use Rattle.laws.proofs.Range.{inside, below, above}
 use Rattle.line.specs.Command.{afterW}
 use Rattle.line.proofs.after_w.Statement.{statement}
 use Rattle.line.proofs.after_w.Tie as tie

@@ -1,0 +1,9 @@
+pub mod Words
+pub mod Numbers
+pub mod Texts
+pub mod Lines
+pub mod Long
+pub mod Forms
+pub mod Beyond
+pub mod Promises
+pub mod Unique

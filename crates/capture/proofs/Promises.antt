@@ -1,0 +1,22 @@
+-- The promises hold: what is read of a line, and what reads a line. Assumes nothing.
+use Prim.Native.Nat.{ℕ}
+use mathlib.Core.List.{List}
+use mathlib.Core.Path.{_≡_, subst}
+use Rattle.capture.specs.Capture.{eventOf}
+use Rattle.capture.specs.Promises.{Forms}
+use Rattle.capture.specs.declared.Event.{Event}
+use Rattle.capture.proofs.Lines.{Says, says}
+use Rattle.capture.proofs.Beyond.{beyond}
+use Rattle.capture.proofs.Forms.{byte-reads, slot-reads, measurement-reads}
+
+-- the line of an event that is known
+is : (s : List ℕ) {e : Event} → eventOf s ≡ e → Says s e
+is s h = subst (Says s) h (says s)
+
+pub forms : Forms
+forms = record {
+  received = λ s b. (λ h. is s h, byte-reads s b);
+  slots = λ s n. (λ h. is s h, slot-reads s n);
+  measured = λ s m. (λ h. is s h, measurement-reads s m);
+  beyond = beyond;
+}

@@ -1,0 +1,173 @@
+-- A call by its cases: refused, held, told, or short of room; what is promised of each call is read off them. Assumes nothing.
+use Prim.Native.Nat.{ℕ, _+_, _≤_, _<_}
+use mathlib.Core.Bool.{true, false, _&&_}
+use mathlib.Core.List.{List, []}
+use mathlib.Core.Logic.{_⊎_, inl, inr, ⊎-elim}
+use mathlib.Core.Path.{_≡_, refl, sym, ap, subst, _∙_}
+use native.Mathlib.Omega.{arith}
+use borrow.Author.Tests.{eq-eqb, ne-eqb, eqb-true, eqb-false, le-leb, lt-leb, leb-true, leb-false}
+use lib.Dec.{leb, eqb}
+use lib.ListN.{length, take}
+use Rattle.laws.specs.Over.{over}
+use Rattle.laws.proofs.OverLaws.{over-short}
+use Rattle.laws.proofs.Tests.{told, never, and-left, cond-yes, cond-no}
+use Rattle.refusal.specs.Answer.{unless}
+use Rattle.refusal.specs.declared.Refusal.{Refusal}
+use Rattle.refusal.specs.declared.Refusal.the-variants as refusal
+use Rattle.frame.specs.Message.{roomFor}
+use Rattle.frame.specs.declared.Wrote.{Wrote}
+use Rattle.frame.specs.declared.Wrote.the-variants.{Count, Refused}
+use Rattle.capture.specs.Words.{before}
+use Rattle.capture.specs.Capture.{eventOf}
+use Rattle.capture.specs.declared.Event.{Event}
+use Rattle.capture.proofs.Words.{before-low}
+use Rattle.telling.specs.Printed.{LF, printedIn, slotsLine}
+use Rattle.telling.specs.Telling.{validRun, Telling, tellOf, toldOf, toldLeaves, countOf, countLeaves}
+use Rattle.telling.specs.declared.Run.{Run}
+use Rattle.telling.specs.declared.Told.{Told}
+use Rattle.follow.specs.Follow.{blankText, validText, heldIn, validFollower, followedBy, refusedState, holds, lineIn, takeOf, takeLeaves, closeOf, closeLeaves}
+use Rattle.follow.specs.declared.Follower.{Follower}
+use Rattle.follow.specs.declared.Followed.{Followed}
+use Rattle.follow.proofs.Laws.{take-16, take-holds, take-line, close-16, close-none, close-line}
+
+-- ---- a text, and a line that is told
+
+-- it fits, or it does not
+pub printed-cases : (text out : List ℕ) →
+    ((length text ≤ length out) × (printedIn text out ≡ Count (length text))) ⊎ ((length out < length text) × (printedIn text out ≡ Refused (refusal.Room (length text))))
+unfolding roomFor unless
+printed-cases text out =
+    told (leb (length text) (length out))
+    (λ e. inl (leb-true _ _ e, rw e))
+    (λ e. inr (leb-false _ _ e, rw e))
+
+module _ (r : Run) (e : Event) (out : List ℕ) (v : validRun r ≡ true) where
+  abbrev t : Telling
+  t = tellOf r e
+
+  pub told-whole : length (t .text) ≤ length out → (toldOf r e out ≡ record { wrote = Count (length (t .text)); run = t .run }) × (toldLeaves r e out ≡ over out 0 (t .text))
+  unfolding toldOf toldLeaves roomFor unless
+  told-whole h = (cond-yes _ _ v ∙ rw (le-leb _ _ h), cond-yes _ _ v)
+
+  pub told-short : length out < length (t .text) → (toldOf r e out ≡ record { wrote = Refused (refusal.Room (length (t .text))); run = r }) × (toldLeaves r e out ≡ out)
+  unfolding toldOf toldLeaves roomFor unless
+  told-short h = (cond-yes _ _ v ∙ rw (lt-leb _ _ h), cond-yes _ _ v ∙ over-short out (t .text) 0 (omega arith))
+
+-- ---- take
+
+valid-run : (f : Follower) → validFollower f ≡ true → validRun (f .run) ≡ true
+valid-run f v = and-left (validRun (f .run)) (validText (f .text)) v
+
+-- the follower once a text was printed
+abbrev pub toldTo : Telling → ℕ → Followed
+toldTo t used = record { wrote = Count (length (t .text)); used = used; follower = record { run = t .run; text = blankText } }
+
+abbrev pub shortOf : Follower → Telling → Followed
+shortOf f t = record { wrote = Refused (refusal.Room (length (t .text))); used = 0; follower = f }
+
+module _ (f : Follower) (piece out : List ℕ) where
+  -- what the line tells that ends in the piece
+  abbrev pub ending : Telling
+  ending = tellOf (f .run) (eventOf (lineIn f (take (before LF piece) piece)))
+
+  pub data Took : Type 0 where
+    invalid : validFollower f ≡ false → takeOf f piece out ≡ refusedState f → takeLeaves f piece out ≡ out → Took
+    held : validFollower f ≡ true → before LF piece ≡ length piece → takeOf f piece out ≡ holds f piece → takeLeaves f piece out ≡ out → Took
+    whole : validFollower f ≡ true → before LF piece < length piece → length (ending .text) ≤ length out →
+        takeOf f piece out ≡ toldTo ending (before LF piece + 1) → takeLeaves f piece out ≡ over out 0 (ending .text) → Took
+    short : validFollower f ≡ true → before LF piece < length piece → length out < length (ending .text) →
+        takeOf f piece out ≡ shortOf f ending → takeLeaves f piece out ≡ out → Took
+
+  abbrev event : Event
+  event = eventOf (lineIn f (take (before LF piece) piece))
+
+  -- a line ends
+  pub line-is : validFollower f ≡ true → before LF piece < length piece →
+      (takeOf f piece out ≡ followedBy f (toldOf (f .run) event out) (before LF piece + 1)) × (takeLeaves f piece out ≡ toldLeaves (f .run) event out)
+  line-is v low =
+      let g = take-line f piece out v (λ e. absurd (omega arith)) refl (record { answers = refl; leaves = refl }) in
+      (sym (g .answers), sym (g .leaves))
+
+  pub took : Took
+  took =
+      told (validFollower f)
+      (λ v.
+      let run = valid-run f v in
+      told (eqb (before LF piece) (length piece))
+      (λ e.
+      let g = take-holds f piece out v (eqb-true _ _ e) in
+      held v (eqb-true _ _ e) (sym (g .answers)) (sym (g .leaves)))
+      (λ e.
+      let n : before LF piece ≡ length piece → ⊥ = eqb-false _ _ e in
+      let low : before LF piece < length piece = omega (arith, before-low LF piece, n) in
+      let l = line-is v low in
+      ⊎-elim
+      (λ h.
+      let t = told-whole (f .run) event out run (h .0) in
+      whole v low (h .0) (l .0 ∙ ap (λ (x : Told). followedBy f x (before LF piece + 1)) (t .0)) (l .1 ∙ t .1))
+      (λ h.
+      let t = told-short (f .run) event out run (h .0) in
+      short v low (h .0) (l .0 ∙ ap (λ (x : Told). followedBy f x (before LF piece + 1)) (t .0)) (l .1 ∙ t .1))
+      (printed-cases (ending .text) out)))
+      (λ v.
+      let g = take-16 f piece out v in
+      invalid v (sym (g .answers)) (sym (g .leaves)))
+
+-- ---- close
+
+module _ (f : Follower) (out : List ℕ) where
+  -- what the line tells that has not ended
+  abbrev pub unended : Telling
+  unended = tellOf (f .run) (eventOf (heldIn (f .text)))
+
+  pub data Closed : Type 0 where
+    invalid : validFollower f ≡ false → closeOf f out ≡ refusedState f → closeLeaves f out ≡ out → Closed
+    no-line : validFollower f ≡ true → f .text .len ≡ 0 → closeOf f out ≡ record { wrote = Count 0; used = 0; follower = f } → closeLeaves f out ≡ out → Closed
+    whole : validFollower f ≡ true → (f .text .len ≡ 0 → ⊥) → length (unended .text) ≤ length out → closeOf f out ≡ toldTo unended 0 →
+        closeLeaves f out ≡ over out 0 (unended .text) → Closed
+    short : validFollower f ≡ true → (f .text .len ≡ 0 → ⊥) → length out < length (unended .text) → closeOf f out ≡ shortOf f unended →
+        closeLeaves f out ≡ out → Closed
+
+  pub closed : Closed
+  closed =
+      told (validFollower f)
+      (λ v.
+      let run = valid-run f v in
+      told (eqb (f .text .len) 0)
+      (λ e.
+      let g = close-none f out v (eqb-true _ _ e) in
+      no-line v (eqb-true _ _ e) (sym (g .answers)) (sym (g .leaves)))
+      (λ e.
+      let n : f .text .len ≡ 0 → ⊥ = eqb-false _ _ e in
+      let g = close-line f out v n refl (record { answers = refl; leaves = refl }) in
+      ⊎-elim
+      (λ h.
+      let t = told-whole (f .run) (eventOf (heldIn (f .text))) out run (h .0) in
+      whole v n (h .0) (sym (g .answers) ∙ ap (λ (x : Told). followedBy f x 0) (t .0)) (sym (g .leaves) ∙ t .1))
+      (λ h.
+      let t = told-short (f .run) (eventOf (heldIn (f .text))) out run (h .0) in
+      short v n (h .0) (sym (g .answers) ∙ ap (λ (x : Told). followedBy f x 0) (t .0)) (sym (g .leaves) ∙ t .1))
+      (printed-cases (unended .text) out)))
+      (λ v.
+      let g = close-16 f out v in
+      invalid v (sym (g .answers)) (sym (g .leaves)))
+
+-- ---- what is read off
+
+pub within : (f : Follower) (piece out : List ℕ) → takeOf f piece out .used ≤ length piece
+within f piece out = by-case (took f piece out)
+  where
+    by-case : Took f piece out → takeOf f piece out .used ≤ length piece
+    by-case (invalid v e l) = rw e (omega arith)
+    by-case (held v n e l) = rw e (omega arith)
+    by-case (whole v n h e l) = rw e (omega arith)
+    by-case (short v n h e l) = rw e (omega arith)
+
+pub fits : (f : Follower) (piece out : List ℕ) (n : ℕ) → takeOf f piece out .wrote ≡ Count n → n ≤ length out
+fits f piece out n c = by-case (took f piece out)
+  where
+    by-case : Took f piece out → n ≤ length out
+    by-case (invalid v e l) = never (cc)
+    by-case (held v q e l) = let z : n ≡ 0 = cc in omega arith
+    by-case (whole v q h e l) = let z : n ≡ length (ending f piece out .text) = cc in omega arith
+    by-case (short v q h e l) = never (cc)

@@ -1,0 +1,120 @@
+-- What is promised of each call: read off the cases of `take` and of `close`, with what is promised of the run that a line tells. Assumes nothing.
+use Prim.Native.Nat.{ℕ, _≤_, _<_}
+use mathlib.Core.Bool.{true, false}
+use mathlib.Core.List.{List, [], _∷_}
+use mathlib.Core.Logic.{_↔_, _⊎_, inl, inr}
+use mathlib.Core.Path.{_≡_, refl, sym}
+use native.Mathlib.Omega.{arith}
+use borrow.Author.Tests.{le-leb, lt-leb, leb-true, leb-false, ltb-true}
+use lib.Dec.{ltb}
+use lib.ListN.{length, take}
+use Rattle.laws.proofs.Tests.{told, by, never, and-left, and-both, and-fails, and-fails-by}
+use Rattle.refusal.specs.declared.Refusal.{Refusal}
+use Rattle.refusal.specs.declared.Refusal.the-variants.{Room, State}
+use Rattle.frame.specs.declared.Wrote.the-variants.{Count, Refused}
+use Rattle.capture.specs.Words.{before}
+use Rattle.capture.proofs.Promises.{forms}
+use Rattle.telling.specs.Printed.{LF}
+use Rattle.telling.specs.Telling.{validRun}
+use Rattle.telling.proofs.Promises.{promised}
+use Rattle.follow.specs.Follow.{textLength, validText, joins, joinedText, validFollower, lineIn, takeOf, takeLeaves, closeOf, closeLeaves}
+use Rattle.follow.specs.Promises.{EachCall}
+use Rattle.follow.specs.declared.Text.{Text}
+use Rattle.follow.specs.declared.Follower.{Follower}
+use Rattle.follow.proofs.Laws.{valid-text}
+use Rattle.follow.proofs.Each.{ending, Took, invalid, held, whole, short, took, Closed, no-line, closed, within, fits}
+
+-- ---- a follower that is none of ours
+
+abbrev Foreign : Follower → Type 0
+Foreign f = (validRun (f .run) ≡ false) ⊎ (136 < f .text .len)
+
+foreign : (f : Follower) → validFollower f ≡ false → Foreign f
+foreign f n =
+    told (validRun (f .run))
+    (λ r. told (validText (f .text)) (λ t. never (cc (and-both r t))) (λ t. inr (leb-false _ _ t)))
+    (λ r. inl r)
+
+is-foreign : (f : Follower) → Foreign f → validFollower f ≡ false
+is-foreign f (inl r) = sym (and-fails (validText (f .text)) r)
+is-foreign f (inr t) = sym (and-fails-by (validRun (f .run)) (lt-leb _ _ t))
+
+-- ---- a line that comes in
+
+-- its count stays within the buffer, whatever the buffer is
+joined-few : (t : Text) (s : List ℕ) → t .len ≤ textLength → joinedText t s .len ≤ textLength
+unfolding joinedText joins
+joined-few t [] h = h
+joined-few t (b ∷ s) h =
+    joined-few (joins t b) s
+    (by (λ (u : Text). u .len ≤ textLength) (ltb (t .len) textLength) _ _
+    (λ e. let low : t .len < textLength = ltb-true _ _ e in omega arith)
+    (λ e. h))
+
+-- ---- a call, by its case
+
+module _ {f : Follower} {piece out : List ℕ} where
+  take-16 : Took f piece out → (takeOf f piece out .wrote ≡ Refused State) ↔ (validFollower f ≡ false)
+  take-16 (invalid v e l) = (λ h. v, λ n. cc)
+  take-16 (held v q e l) = (λ h. never (cc), λ n. never (cc))
+  take-16 (whole v q k e l) = (λ h. never (cc), λ n. never (cc))
+  take-16 (short v q k e l) = (λ h. never (cc), λ n. never (cc))
+
+  take-2 : Took f piece out → (n : ℕ) →
+      (takeOf f piece out .wrote ≡ Refused (Room n)) ↔
+      ((validFollower f ≡ true) × (before LF piece < length piece) × (length out < length (ending f piece out .text)) × (n ≡ length (ending f piece out .text)))
+  take-2 (invalid v e l) n = (λ h. never (cc), λ h. never (cc))
+  take-2 (held v q e l) n = (λ h. never (cc), λ h. absurd (omega arith))
+  take-2 (whole v q k e l) n = (λ h. never (cc), λ h. absurd (omega arith))
+  take-2 (short v q k e l) n = (λ h. (v, q, k, cc), λ h. cc)
+
+  take-same : Took f piece out → (x : Refusal) → takeOf f piece out .wrote ≡ Refused x →
+      (takeOf f piece out .used ≡ 0) × (takeOf f piece out .follower ≡ f) × (takeLeaves f piece out ≡ out)
+  take-same (invalid v e l) x h = (cc, cc, l)
+  take-same (held v q e l) x h = never (cc)
+  take-same (whole v q k e l) x h = never (cc)
+  take-same (short v q k e l) x h = (cc, cc, l)
+
+  uses-some : Took f piece out → (n : ℕ) → takeOf f piece out .wrote ≡ Count n → 0 < length piece → 0 < takeOf f piece out .used
+  uses-some (invalid v e l) n h some = never (cc)
+  uses-some (held v q e l) n h some = rw e some
+  uses-some (whole v q k e l) n h some = rw e (omega arith)
+  uses-some (short v q k e l) n h some = never (cc)
+
+  -- no line has more than 999 slots
+  goes-on : Took f piece out → validFollower f ≡ true → 2997 ≤ length out → (n : ℕ) × (takeOf f piece out .wrote ≡ Count n)
+  goes-on (invalid v e l) t h = never (cc)
+  goes-on (held v q e l) t h = (0, cc)
+  goes-on (whole v q k e l) t h = (length (ending f piece out .text), cc)
+  goes-on (short v q k e l) t h =
+      let most = promised .each-call .longest (f .run) _ (λ n s. forms .slots (lineIn f (take (before LF piece) piece)) n .0 s .high) in
+      absurd (omega arith)
+
+  kept-valid : Took f piece out → validFollower f ≡ true → validFollower (takeOf f piece out .follower) ≡ true
+  kept-valid (invalid v e l) t = rw e t
+  kept-valid (held v q e l) t =
+      rw e (and-both (and-left (validRun (f .run)) _ t) (le-leb _ _ (joined-few (f .text) piece (leb-true _ _ (valid-text f t)))))
+  kept-valid (whole v q k e l) t = rw e (and-both (promised .each-call .tell-valid (f .run) _ (and-left (validRun (f .run)) _ t)) refl)
+  kept-valid (short v q k e l) t = rw e t
+
+close-same : {f : Follower} {out : List ℕ} → Closed f out → (x : Refusal) → closeOf f out .wrote ≡ Refused x → (closeOf f out .follower ≡ f) × (closeLeaves f out ≡ out)
+close-same (invalid v e l) x h = (cc, l)
+close-same (no-line v z e l) x h = never (cc)
+close-same (whole v z k e l) x h = never (cc)
+close-same (short v z k e l) x h = (cc, l)
+
+pub each-call : EachCall
+each-call = record {
+  take-16 = λ f piece out. (
+    λ h. foreign f (take-16 (took f piece out) .0 h),
+    λ h. take-16 (took f piece out) .1 (is-foreign f h),
+  );
+  take-2 = λ f piece out. take-2 (took f piece out);
+  take-same = λ f piece out. take-same (took f piece out);
+  close-same = λ f out. close-same (closed f out);
+  within = within;
+  fits = fits;
+  uses-some = λ f piece out. uses-some (took f piece out);
+  goes-on = λ f piece out. goes-on (took f piece out);
+  kept-valid = λ f piece out. kept-valid (took f piece out);
+}

@@ -1,0 +1,10 @@
+pub mod Laws
+pub mod Each
+pub mod Lines
+pub mod Whole
+pub mod Calls
+pub mod Shown
+pub mod Ends
+pub mod EachCall
+pub mod Promises
+pub mod Unique

@@ -1,0 +1,238 @@
+-- However the pieces fall, the calls print what the lines of the whole text tell: the follower has the line that has not ended yet. Assumes nothing.
+use Prim.Native.Nat.{ℕ, suc, _+_, _≤_, _<_}
+use mathlib.Core.Bool.{true, false}
+use mathlib.Core.List.{List, [], _∷_, _++_, append-assoc, append-nil}
+use mathlib.Core.Logic.{_⊎_, inl, inr, ⊎-elim}
+use mathlib.Core.Path.{_≡_, refl, sym, ap, ap₂, subst, _∙_}
+use native.Mathlib.Numerals.{add-one}
+use native.Mathlib.Omega.{arith}
+use borrow.Author.Tests.{leb-true, leb-false}
+use lib.Dec.{leb}
+use lib.ListN.{length, take, replicate, length-replicate}
+use lib.Seq.{take-all, take-at, take-append-le, length-take-le}
+use Rattle.laws.specs.Over.{over}
+use Rattle.laws.proofs.OverLaws.{take-over}
+use Rattle.laws.proofs.Tests.{told, never, cond-yes, cond-no}
+use Rattle.refusal.specs.declared.Refusal.the-variants.{State}
+use Rattle.frame.specs.declared.Wrote.the-variants.{Count, Refused}
+use Rattle.capture.specs.Words.{before}
+use Rattle.capture.specs.Capture.{eventOf}
+use Rattle.capture.specs.declared.Event.{Event}
+use Rattle.capture.proofs.Long.{first-136}
+use Rattle.telling.specs.Printed.{LF, slotsLine, printedIn}
+use Rattle.telling.specs.Telling.{startWith, validRun, Telling, tellOf, countOf, countLeaves}
+use Rattle.telling.specs.declared.Run.{Run}
+use Rattle.follow.specs.Replay.{lines, tellAll, replayWith}
+use Rattle.follow.specs.Follow.{textLength, blankText, heldIn, joinedText, holds, lineIn, takeOf, takeLeaves, closeOf, closeLeaves}
+use Rattle.follow.specs.Calls.{Fed, no-more, next, Replays}
+use Rattle.follow.specs.Promises.{Unbroken}
+use Rattle.follow.specs.declared.Text.{Text}
+use Rattle.follow.specs.declared.Follower.{Follower}
+use Rattle.follow.specs.declared.Followed.{Followed}
+use Rattle.follow.proofs.Laws.{Sound, held-long, held-joined, joined-sound}
+use Rattle.follow.proofs.Lines.{unbroken-append, unbroken-first, with-lf, ended, last}
+use Rattle.follow.proofs.Each.{printed-cases, toldTo, ending, Took, invalid, held, whole, short, took, unended, Closed, no-line, closed}
+
+-- ---- the line that has not ended
+
+-- the follower has the bytes w since the last LF, as far as it keeps them
+pub record Has (w : List ℕ) (f : Follower) : Type 0 where
+  pub unbroken : Unbroken w
+  pub sound : Sound (f .text)
+  pub kept : heldIn (f .text) ≡ take textLength w
+
+zeros-long : length (blankText .bytes) ≡ textLength
+zeros-long = refl
+
+pub has-none : (r : Run) → Has [] (record { run = r; text = blankText })
+unfolding before
+has-none r = record { unbroken = refl; sound = record { long = zeros-long; few = omega arith }; kept = refl }
+
+-- more bytes, of which the first ones are known
+kept-append : (w a : List ℕ) → take textLength (take textLength w ++ a) ≡ take textLength (w ++ a)
+kept-append w a =
+    told (leb (length w) textLength)
+    (λ e. ap (λ (x : List ℕ). take textLength (x ++ a)) (take-all textLength w (leb-true _ _ e)))
+    (λ e.
+    let h : textLength < length w = leb-false _ _ e in
+    take-at (take textLength w) a textLength (length-take-le textLength w (omega arith)) ∙ sym (take-append-le textLength w a (omega arith)))
+
+module _ {w : List ℕ} {f : Follower} (h : Has w f) (a : List ℕ) where
+  has-more : Unbroken a → Has (w ++ a) (record { run = f .run; text = joinedText (f .text) a })
+  has-more u = record {
+    unbroken = unbroken-append w a (h .unbroken) u;
+    sound = joined-sound (f .text) a (h .sound);
+    kept = held-joined (f .text) a (h .sound) ∙ ap (λ (x : List ℕ). take textLength (x ++ a)) (h .kept) ∙ kept-append w a;
+  }
+
+  -- they tell the event of the whole line
+  same-event : eventOf (lineIn f a) ≡ eventOf (w ++ a)
+  same-event =
+      sym (first-136 (lineIn f a))
+      ∙ ap eventOf (ap (λ (x : List ℕ). take textLength (x ++ a)) (h .kept) ∙ kept-append w a)
+      ∙ first-136 (w ++ a)
+
+-- ---- the calls
+
+abbrev pub ahead : List ℕ → Telling → Telling
+ahead t u = record { text = t ++ u .text; run = u .run }
+
+-- calls from f, which has w, to g: whatever follows, they tell the first of it
+record Comes (w : List ℕ) (f : Follower) (s t : List ℕ) (g : Follower) : Type 0 where
+  left : List ℕ
+  has : Has left g
+  tells : (rest : List ℕ) → tellAll (f .run) (lines (w ++ (s ++ rest))) ≡ ahead t (tellAll (g .run) (lines (left ++ rest)))
+
+-- a line that ended, and what follows it
+first-line : (r : Run) (l s : List ℕ) → Unbroken l →
+    tellAll r (lines (l ++ LF ∷ s)) ≡ ahead (tellOf r (eventOf l) .text) (tellAll (tellOf r (eventOf l) .run) (lines s))
+unfolding tellAll
+first-line r l s u = ap (tellAll r) (ended l s u)
+
+-- a piece in which no line ends
+module _ {w : List ℕ} (f : Follower) (piece out : List ℕ) (n : ℕ) (s t : List ℕ) (g : Follower) (h : Has w f)
+    (c : takeOf f piece out .wrote ≡ Count n) where
+  held-comes : takeOf f piece out ≡ holds f piece → Comes (w ++ piece) (takeOf f piece out .follower) s t g →
+      Comes w f (take (takeOf f piece out .used) piece ++ s) (take n (takeLeaves f piece out) ++ t) g
+  held-comes e i =
+      let z : n ≡ 0 = cc in
+      let all : take (takeOf f piece out .used) piece ≡ piece = ap (λ (x : Followed). take (x .used) piece) e ∙ take-all (length piece) piece (omega arith) in
+      record {
+        left = i .left;
+        has = i .has;
+        tells = λ rest.
+            ap (λ (x : List ℕ). tellAll (f .run) (lines (w ++ ((x ++ s) ++ rest)))) all
+            ∙ ap (λ (x : List ℕ). tellAll (f .run) (lines (w ++ x))) (append-assoc piece s rest)
+            ∙ ap (λ (x : List ℕ). tellAll (f .run) (lines x)) (sym (append-assoc w piece (s ++ rest)))
+            ∙ ap (λ (x : Followed). tellAll (x .follower .run) (lines ((w ++ piece) ++ (s ++ rest)))) (sym e)
+            ∙ i .tells rest
+            ∙ sym (ap (λ (k : ℕ). ahead (take k (takeLeaves f piece out) ++ t) (tellAll (g .run) (lines (i .left ++ rest)))) z);
+      }
+
+  -- and one in which the line ends
+  abbrev a : List ℕ
+  a = take (before LF piece) piece
+
+  whole-comes : before LF piece < length piece → length (ending f piece out .text) ≤ length out →
+      takeOf f piece out ≡ toldTo (ending f piece out) (before LF piece + 1) → takeLeaves f piece out ≡ over out 0 (ending f piece out .text) →
+      Comes [] (takeOf f piece out .follower) s t g →
+      Comes w f (take (takeOf f piece out .used) piece ++ s) (take n (takeLeaves f piece out) ++ t) g
+  whole-comes low room e l i =
+      let x = ending f piece out in
+      let z : n ≡ length (x .text) = cc in
+      let text : take n (takeLeaves f piece out) ≡ x .text =
+      ap₂ take z l ∙ take-over out (x .text) (length (x .text)) refl room in
+      let used : take (takeOf f piece out .used) piece ≡ a ++ LF ∷ [] =
+      ap (λ (y : Followed). take (y .used) piece) e ∙ ap (λ (k : ℕ). take k piece) (add-one (before LF piece)) ∙ with-lf piece low in
+      record {
+        left = i .left;
+        has = i .has;
+        tells = λ rest.
+            ap (λ (y : List ℕ). tellAll (f .run) (lines (w ++ ((y ++ s) ++ rest)))) used
+            ∙ ap (λ (y : List ℕ). tellAll (f .run) (lines y)) (joins rest)
+            ∙ first-line (f .run) (w ++ a) (s ++ rest) (unbroken-append w a (h .unbroken) (unbroken-first piece))
+            ∙ ap (λ (y : Event). ahead (tellOf (f .run) y .text) (tellAll (tellOf (f .run) y .run) (lines (s ++ rest)))) (sym (same-event h a))
+            ∙ ap (λ (y : Followed). ahead (x .text) (tellAll (y .follower .run) (lines (s ++ rest)))) (sym e)
+            ∙ ap (ahead (x .text)) (i .tells rest)
+            ∙ ap (λ (y : List ℕ). record { text = y; run = tellAll (g .run) (lines (i .left ++ rest)) .run }) (sym (append-assoc (x .text) t _))
+            ∙ sym (ap (λ (y : List ℕ). ahead (y ++ t) (tellAll (g .run) (lines (i .left ++ rest)))) text);
+      }
+    where
+      joins : (rest : List ℕ) → w ++ (((a ++ LF ∷ []) ++ s) ++ rest) ≡ (w ++ a) ++ LF ∷ (s ++ rest)
+      joins rest = simp append-assoc
+
+-- by what the call made of its piece, and what the calls after it come to
+comes-by : {w : List ℕ} (f : Follower) (piece out : List ℕ) (n : ℕ) (s t : List ℕ) (g : Follower) → Has w f → takeOf f piece out .wrote ≡ Count n →
+    ((v : List ℕ) → Has v (takeOf f piece out .follower) → Comes v (takeOf f piece out .follower) s t g) →
+    Took f piece out → Comes w f (take (takeOf f piece out .used) piece ++ s) (take n (takeLeaves f piece out) ++ t) g
+comes-by f piece out n s t g h c i (invalid v e l) = never (cc)
+comes-by {w} f piece out n s t g h c i (held v q e l) =
+    held-comes f piece out n s t g h c e (i (w ++ piece) (subst (Has (w ++ piece)) (ap (λ (x : Followed). x .follower) (sym e)) (has-more h piece q)))
+comes-by f piece out n s t g h c i (whole v low room e l) =
+    whole-comes f piece out n s t g h c low room e l
+    (i [] (subst (Has []) (ap (λ (x : Followed). x .follower) (sym e)) (has-none (ending f piece out .run))))
+comes-by f piece out n s t g h c i (short v low room e l) = never (cc)
+
+comes : {w : List ℕ} {f : Follower} {s t : List ℕ} {g : Follower} → Fed f s t g → Has w f → Comes w f s t g
+comes {w} no-more h = record { left = w; has = h; tells = λ rest. refl }
+comes (next f piece out n s t g c fed) h = comes-by f piece out n s t g h c (λ v k. comes fed k) (took f piece out)
+
+-- ---- the end of the text
+
+nothing-kept : (w : List ℕ) → take textLength w ≡ [] → w ≡ []
+nothing-kept [] e = refl
+nothing-kept (b ∷ w) e = never (cc)
+
+-- one line that has not ended, or none
+alone : (r : Run) (b : ℕ) (l : List ℕ) → Unbroken (b ∷ l) →
+    tellAll r (lines (b ∷ l)) ≡ record { text = tellOf r (eventOf (b ∷ l)) .text ++ []; run = tellOf r (eventOf (b ∷ l)) .run }
+unfolding tellAll
+alone r b l u = ap (tellAll r) (last b l u)
+
+-- the close tells it
+record Tells (w : List ℕ) (f : Follower) (out : List ℕ) (n : ℕ) : Type 0 where
+  text : take n (closeLeaves f out) ≡ tellAll (f .run) (lines w) .text
+  run : closeOf f out .follower .run ≡ tellAll (f .run) (lines w) .run
+
+none-tells : (f : Follower) (out : List ℕ) (n : ℕ) → n ≡ 0 → closeOf f out .follower ≡ f → Tells [] f out n
+unfolding lines tellAll
+none-tells f out n z e = record { text = ap (λ (k : ℕ). take k (closeLeaves f out)) z; run = ap (λ (x : Follower). x .run) e }
+
+line-tells : (w : List ℕ) (f : Follower) (out : List ℕ) (n : ℕ) → Has w f → (f .text .len ≡ 0 → ⊥) → n ≡ length (unended f out .text) →
+    length (unended f out .text) ≤ length out → closeOf f out .follower .run ≡ unended f out .run → closeLeaves f out ≡ over out 0 (unended f out .text) →
+    Tells w f out n
+line-tells [] f out n h some z room e l = absurd (some (sym (held-long (h .sound)) ∙ ap length (h .kept)))
+line-tells (b ∷ w) f out n h some z room e l =
+    let x = ap eventOf (h .kept) ∙ first-136 (b ∷ w) in
+    let one = alone (f .run) b w (h .unbroken) in
+    record {
+      text =
+          ap₂ take z l
+          ∙ take-over out (unended f out .text) (length (unended f out .text)) refl room
+          ∙ ap (λ (y : Event). tellOf (f .run) y .text) x
+          ∙ sym (append-nil _)
+          ∙ sym (ap (λ (t : Telling). t .text) one);
+      run = e ∙ ap (λ (y : Event). tellOf (f .run) y .run) x ∙ sym (ap (λ (t : Telling). t .run) one);
+    }
+
+close-tells : (w : List ℕ) (f : Follower) (out : List ℕ) (n : ℕ) → Has w f → closeOf f out .wrote ≡ Count n → Closed f out → Tells w f out n
+close-tells w f out n h c (invalid v e l) = never (cc)
+close-tells w f out n h c (no-line v z e l) =
+    let nothing : w ≡ [] = nothing-kept w (sym (h .kept) ∙ ap (λ (k : ℕ). take k (f .text .bytes)) z) in
+    subst (λ (x : List ℕ). Tells x f out n) (sym nothing) (none-tells f out n (cc) (ap (λ (x : Followed). x .follower) e))
+close-tells w f out n h c (whole v some room e l) = line-tells w f out n h some (cc) room (ap (λ (x : Followed). x .follower .run) e) l
+close-tells w f out n h c (short v some room e l) = never (cc)
+
+-- the last line
+count-tells : (r : Run) (out : List ℕ) (n : ℕ) → countOf r out ≡ Count n → take n (countLeaves r out) ≡ slotsLine (r .slots)
+unfolding countOf countLeaves
+count-tells r out n c =
+    told (validRun r)
+    (λ v.
+    let w : printedIn (slotsLine (r .slots)) out ≡ Count n = sym (cond-yes _ _ v) ∙ c in
+    let l = cond-yes (over out 0 (slotsLine (r .slots))) out v in
+    ⊎-elim
+    (λ h.
+    let z : n ≡ length (slotsLine (r .slots)) = cc in
+    ap₂ take z l ∙ take-over out (slotsLine (r .slots)) (length (slotsLine (r .slots))) refl (h .0))
+    (λ h. never (cc))
+    (printed-cases (slotsLine (r .slots)) out))
+    (λ v. never (let w : Refused State ≡ Count n = sym (cond-no _ _ v) ∙ c in cc))
+
+-- ---- the whole
+
+pub replays : (letter : ℕ) (input text : List ℕ) → Replays letter input text → text ≡ replayWith (startWith letter .run) input
+unfolding replayWith
+replays letter input text p =
+    let r = startWith letter .run in
+    let i = comes (p .fed) (has-none r) in
+    let f = p .left in
+    let x = close-tells (i .left) f (p .room) (p .closed) (i .has) (p .closes) (closed f (p .room)) in
+    let u = tellAll (f .run) (lines (i .left)) in
+    let all : tellAll r (lines input) ≡ ahead (p .told) u =
+    ap (λ (s : List ℕ). tellAll r (lines s)) (sym (append-nil input)) ∙ i .tells [] ∙ ap (λ (s : List ℕ). ahead (p .told) (tellAll (f .run) (lines s))) (append-nil (i .left)) in
+    let end = count-tells (closeOf f (p .room) .follower .run) (p .last-room) (p .counted) (p .counts) ∙ ap (λ (q : Run). slotsLine (q .slots)) (x .run) in
+    p .printed
+    ∙ ap₂ (λ (s t : List ℕ). p .told ++ (s ++ t)) (x .text) end
+    ∙ sym (append-assoc (p .told) (u .text) (slotsLine (u .run .slots)))
+    ∙ sym (ap (λ (t : Telling). t .text ++ slotsLine (t .run .slots)) all)

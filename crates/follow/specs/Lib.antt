@@ -1,0 +1,5 @@
+pub mod Replay
+pub mod Follow
+pub mod Calls
+pub mod Promises
+pub mod Contracts

@@ -1,0 +1,106 @@
+-- What a replay promises: the whole text that it prints is the definition's for the whole text in, however the pieces fall; what it shows is what the
+-- port's calls send, of which demand 3 is proved. Statements only.
+use Prim.Native.Nat.{ℕ, _+_, _≤_, _<_}
+use mathlib.Core.Bool.{true, false}
+use mathlib.Core.List.{List, [], _∷_, _++_}
+use mathlib.Core.Logic.{_↔_, _⊎_, _≢_}
+use mathlib.Core.Path.{_≡_}
+use lib.ListN.{length, take}
+use Rattle.machine.specs.Machine.{slots, sent, start}
+use Rattle.machine.specs.Promised.{Promised}
+use Rattle.refusal.specs.declared.Refusal.{Refusal}
+use Rattle.refusal.specs.declared.Refusal.the-variants as refusal
+use Rattle.refusal.specs.declared.Verdict.the-variants.{Done}
+use Rattle.frame.specs.declared.Wrote.the-variants as wrote
+use Rattle.bench_lens.specs.Bench.{benchSettings, benchMeasurement}
+use Rattle.rules.specs.Lens.{lens}
+use Rattle.rules.specs.Promise.{actBy, replyBy, recordBy}
+use Rattle.port.specs.Port.{started}
+use Rattle.walk.specs.Calls.{afterAll, bytesAll, eventsAll, FromStart}
+use Rattle.walk.specs.InCalls.{slotsRun}
+use Rattle.capture.specs.Words.{before}
+use Rattle.capture.specs.Capture.{eventOf}
+use Rattle.capture.specs.declared.Event.the-variants.{Other}
+use Rattle.telling.specs.Printed.{LF, refusedText, slotsLine}
+use Rattle.telling.specs.Telling.{startWith, validRun, isOver, tellOf}
+use Rattle.telling.specs.declared.Run.{Run}
+use Rattle.follow.specs.Replay.{lines, tellAll, replayWith, replayOf}
+use Rattle.follow.specs.Follow.{validFollower, lineIn, takeOf, takeLeaves, closeOf, closeLeaves}
+use Rattle.follow.specs.Calls.{Fed, Replays, heldBy, callsIn, shown}
+use Rattle.follow.specs.declared.Follower.{Follower}
+
+-- ---- the lines of a text
+
+-- no LF in it
+abbrev pub Unbroken : List ℕ → Type 0
+Unbroken l = before LF l ≡ length l
+
+pub record OfLines : Type 0 where
+  -- "Lines end with LF; the last may lack it"
+  pub none : lines [] ≡ []
+  pub ended : (l s : List ℕ) → Unbroken l → lines (l ++ LF ∷ s) ≡ l ∷ lines s
+  pub last : (b : ℕ) (l : List ℕ) → Unbroken (b ∷ l) → lines (b ∷ l) ≡ (b ∷ l) ∷ []
+
+-- ---- the whole text
+
+pub record WholeText : Type 0 where
+  -- over any calls, "the whole text out is the definition's for the whole text in"
+  pub replays : (letter : ℕ) (input text : List ℕ) → Replays letter input text → text ≡ replayWith (startWith letter .run) input
+  -- "Input `S 4` alone prints `3c 0a 0d --` and `slots 4`", empty input `slots 0`
+  pub four : replayOf (0x53 ∷ 0x20 ∷ 0x34 ∷ []) ≡
+      0x33 ∷ 0x63 ∷ 0x20 ∷ 0x30 ∷ 0x61 ∷ 0x20 ∷ 0x30 ∷ 0x64 ∷ 0x20 ∷ 0x2D ∷ 0x2D ∷ 0x0A ∷ 0x73 ∷ 0x6C ∷ 0x6F ∷ 0x74 ∷ 0x73 ∷ 0x20 ∷ 0x34 ∷ 0x0A ∷ []
+  pub empty : replayOf [] ≡ 0x73 ∷ 0x6C ∷ 0x6F ∷ 0x74 ∷ 0x73 ∷ 0x20 ∷ 0x30 ∷ 0x0A ∷ []
+
+-- ---- what the lines come to
+
+pub record OfTheCalls : Type 0 where
+  -- a start that is accepted is one of the port's
+  pub from-start : (letter : ℕ) → startWith letter .verdict ≡ Done → FromStart (heldBy (startWith letter .run))
+  -- the port and its line are those of the calls
+  pub states : (r : Run) (ls : List (List ℕ)) → heldBy (tellAll r ls .run) ≡ afterAll (heldBy r) (callsIn r ls)
+  -- "the number is the machine's `slots` of the events"
+  pub number : (r : Run) (ls : List (List ℕ)) → tellAll r ls .run .slots ≡ r .slots + slots (eventsAll (heldBy r) (callsIn r ls))
+  pub by-calls : (r : Run) (ls : List (List ℕ)) → tellAll r ls .run .slots ≡ r .slots + slotsRun (heldBy r) (callsIn r ls)
+  -- the bytes that the text shows are those that the calls send
+  pub bytes : (letter : ℕ) (input : List ℕ) → startWith letter .verdict ≡ Done →
+      let r = startWith letter .run in
+      shown (lines (replayWith r input)) ≡ bytesAll (heldBy r) (callsIn r (lines input))
+  -- and so the machine's, of which demand 3 is proved: 156, 233 and 79
+  pub sends : (letter : ℕ) (input : List ℕ) → startWith letter .verdict ≡ Done →
+      let r = startWith letter .run in
+      shown (lines (replayWith r input)) ≡ sent (start lens (r .port .source)) (eventsAll (heldBy r) (callsIn r (lines input)))
+  pub demand3 : (letter : ℕ) → startWith letter .verdict ≡ Done → Promised lens actBy replyBy recordBy (startWith letter .run .port .source)
+  -- no more than 100,000 slots are run
+  pub at-most : (r : Run) (ls : List (List ℕ)) → r .slots ≤ 100000 → tellAll r ls .run .slots ≤ 100000
+  -- "10 .. prints `refused 10`, then `slots`, and ends the run"; lines before it are told as ever, and lines behind it are not looked at
+  pub other : (r : Run) (before l : List (List ℕ)) (line : List ℕ) → eventOf line ≡ Other → isOver (tellAll r before .run) ≡ false →
+      tellAll r (before ++ line ∷ l) .text ≡ tellAll r before .text ++ refusedText refusal.Form
+  pub other-slots : (r : Run) (before l : List (List ℕ)) (line : List ℕ) → eventOf line ≡ Other → isOver (tellAll r before .run) ≡ false →
+      tellAll r (before ++ line ∷ l) .run .slots ≡ tellAll r before .run .slots
+  -- after the run's end, by 10 or by its last slot, no line is looked at
+  pub over : (r : Run) (before l : List (List ℕ)) → isOver (tellAll r before .run) ≡ true → tellAll r (before ++ l) ≡ tellAll r before
+
+-- ---- a call
+
+pub record EachCall : Type 0 where
+  -- 16 exactly for a run or a count of bytes that is none of ours
+  pub take-16 : (f : Follower) (piece out : List ℕ) →
+      (takeOf f piece out .wrote ≡ wrote.Refused refusal.State) ↔ ((validRun (f .run) ≡ false) ⊎ (136 < f .text .len))
+  -- then 2, exactly where a line ends and its text is longer than the lent memory, with its length
+  pub take-2 : (f : Follower) (piece out : List ℕ) (n : ℕ) →
+      (takeOf f piece out .wrote ≡ wrote.Refused (refusal.Room n)) ↔
+      ((validFollower f ≡ true) × (before LF piece < length piece) ×
+      (length out < length (tellOf (f .run) (eventOf (lineIn f (take (before LF piece) piece))) .text)) ×
+      (n ≡ length (tellOf (f .run) (eventOf (lineIn f (take (before LF piece) piece))) .text)))
+  -- a refusal uses no byte and changes nothing
+  pub take-same : (f : Follower) (piece out : List ℕ) (x : Refusal) → takeOf f piece out .wrote ≡ wrote.Refused x →
+      (takeOf f piece out .used ≡ 0) × (takeOf f piece out .follower ≡ f) × (takeLeaves f piece out ≡ out)
+  pub close-same : (f : Follower) (out : List ℕ) (x : Refusal) → closeOf f out .wrote ≡ wrote.Refused x →
+      (closeOf f out .follower ≡ f) × (closeLeaves f out ≡ out)
+  -- no call uses more than its piece or prints more than the memory holds; one that is not refused uses some of its piece
+  pub within : (f : Follower) (piece out : List ℕ) → takeOf f piece out .used ≤ length piece
+  pub fits : (f : Follower) (piece out : List ℕ) (n : ℕ) → takeOf f piece out .wrote ≡ wrote.Count n → n ≤ length out
+  pub uses-some : (f : Follower) (piece out : List ℕ) (n : ℕ) → takeOf f piece out .wrote ≡ wrote.Count n → 0 < length piece → 0 < takeOf f piece out .used
+  -- with room for 999 slots a follower of ours is not refused, and stays one
+  pub goes-on : (f : Follower) (piece out : List ℕ) → validFollower f ≡ true → 2997 ≤ length out → (n : ℕ) × (takeOf f piece out .wrote ≡ wrote.Count n)
+  pub kept-valid : (f : Follower) (piece out : List ℕ) → validFollower f ≡ true → validFollower (takeOf f piece out .follower) ≡ true

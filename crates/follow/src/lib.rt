@@ -1,0 +1,195 @@
+// A capture followed as its text comes in, in any pieces: each line is run where it ends.
+use capture::Event;
+use frame::Wrote;
+use refusal::Refusal;
+use refusal::Verdict;
+use telling::Run;
+use telling::Told;
+ghost use mathlib.Core.Path.{_≡_};
+ghost use mathlib.Core.Bool.{true};
+ghost use mathlib.Core.List.{_++_};
+ghost use Rattle.capture.specs.Capture.{eventOf};
+ghost use Rattle.follow.specs.Follow.{blankText, validText, heldIn, joinedText, followedBy};
+ghost use Rattle.follow.specs.Contracts.{FollowerStart, FollowerIsValid, FollowerTake, FollowerClose};
+
+// The bytes that are kept of a line: one more than a line of an event has at most.
+pub const TEXT_LENGTH: usize = 136;
+
+// The first bytes of the line that is coming in.
+pub struct Text {
+    pub bytes: [u8; TEXT_LENGTH],
+    pub len: usize,
+}
+
+pub struct Follower {
+    pub run: Run,
+    pub text: Text,
+}
+
+// What a start hands back.
+pub struct Begins {
+    pub verdict: Verdict,
+    pub follower: Follower,
+}
+
+// What a call makes of a piece.
+pub struct Followed {
+    // How many bytes it printed; 16, then 2.
+    pub wrote: Wrote,
+    // How many bytes of the piece were taken.
+    pub used: usize,
+    pub follower: Follower,
+}
+
+impl Text {
+    // No line yet.
+    fn blank() -> Text
+        ensures { λ r. ⌜ r ≡ blankText ⌝ }
+    {
+        Text {
+            bytes: [0; TEXT_LENGTH],
+            len: 0,
+        }
+    }
+
+    // Whether the count is within the buffer; the bytes may be anything.
+    fn is_kept(self) -> bool
+        ensures { λ r. ⌜ r ≡ validText self ⌝ }
+    {
+        self.len <= TEXT_LENGTH
+    }
+
+    // The line with these bytes more, as many as are kept.
+    fn joined(self, part: &[u8]) -> Text
+        ensures { λ r. ⌜ r ≡ joinedText self (now (part .entry)) ⌝ }
+    {
+        let mut text = self;
+        let mut i = 0;
+        while i < part.len() {
+            let at = text.len;
+            if TEXT_LENGTH <= at {
+                return text;
+            }
+            text.bytes[at] = part[i];
+            text.len = at + 1;
+            i += 1;
+        }
+        text
+    }
+
+    // The event that a line tells which ends with this part.
+    fn event(self, part: &[u8]) -> Event
+        requires { ⌜ validText self ≡ true ⌝ }
+        ensures { λ r. ⌜ r ≡ eventOf (heldIn self ++ now (part .entry)) ⌝ }
+    {
+        if self.len == 0 {
+            return capture::event_of(part);
+        }
+        let text = self.joined(part);
+        let bytes = text.bytes;
+        let len = text.len;
+        capture::event_of(&bytes[0..len])
+    }
+}
+
+impl Follower {
+    // The session program's lens, started with this start-up letter, and no line yet.
+    pub fn start(letter: u8) -> Begins
+        ensures { λ r. ⌜ FollowerStart letter r ⌝ }
+    {
+        let begun = Run::start(letter);
+        let verdict = begun.verdict;
+        let run = begun.run;
+        Begins {
+            verdict,
+            follower: Follower {
+                run,
+                text: Text::blank(),
+            },
+        }
+    }
+
+    // Whether a handed-in follower is one of ours (16).
+    pub fn is_valid(self) -> bool
+        ensures { λ r. ⌜ FollowerIsValid self r ⌝ }
+    {
+        let run = self.run;
+        let text = self.text;
+        run.is_valid() & text.is_kept()
+    }
+
+    // The follower once a line was told: no line yet, or, where that was refused, the old one.
+    fn followed(self, told: Told, used: usize) -> Followed
+        ensures { λ r. ⌜ r ≡ followedBy self told used ⌝ }
+    {
+        let wrote = told.wrote;
+        let run = told.run;
+        match wrote {
+            Wrote::Count(n) => Followed {
+                wrote: Wrote::Count(n),
+                used,
+                follower: Follower {
+                    run,
+                    text: Text::blank(),
+                },
+            },
+            Wrote::Refused(r) => Followed {
+                wrote: Wrote::Refused(r),
+                used: 0,
+                follower: self,
+            },
+        }
+    }
+
+    // Takes the piece up to the first end of a line, or all of it; the line is run and told: 16, then 2.
+    pub fn take(self, piece: &[u8], out: &mut [u8]) -> Followed
+        ensures { λ r. ⌜ FollowerTake self (now (piece .entry)) (now (out .entry)) r (now (out .exit)) ⌝ }
+    {
+        if !self.is_valid() {
+            return Followed {
+                wrote: Wrote::Refused(Refusal::State),
+                used: 0,
+                follower: self,
+            };
+        }
+        let end = capture::bytes_before(piece, b'\n');
+        let run = self.run;
+        let text = self.text;
+        if end == piece.len() {
+            return Followed {
+                wrote: Wrote::Count(0),
+                used: end,
+                follower: Follower {
+                    run,
+                    text: text.joined(piece),
+                },
+            };
+        }
+        let told = run.tell(text.event(&piece[0..end]), out);
+        self.followed(told, end + 1)
+    }
+
+    // The text has ended: a last line without its LF is run and told too.
+    pub fn close(self, out: &mut [u8]) -> Followed
+        ensures { λ r. ⌜ FollowerClose self (now (out .entry)) r (now (out .exit)) ⌝ }
+    {
+        if !self.is_valid() {
+            return Followed {
+                wrote: Wrote::Refused(Refusal::State),
+                used: 0,
+                follower: self,
+            };
+        }
+        let run = self.run;
+        let text = self.text;
+        if text.len == 0 {
+            return Followed {
+                wrote: Wrote::Count(0),
+                used: 0,
+                follower: self,
+            };
+        }
+        let told = run.tell(text.event(b""), out);
+        self.followed(told, 0)
+    }
+}

@@ -1,0 +1,7 @@
+pub mod Laws
+pub mod Unique
+pub mod Characters
+pub mod Events
+pub mod Calls
+pub mod Start
+pub mod Promises

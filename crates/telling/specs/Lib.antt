@@ -1,0 +1,4 @@
+pub mod Printed
+pub mod Telling
+pub mod Promises
+pub mod Contracts
