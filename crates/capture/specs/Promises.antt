@@ -1,8 +1,8 @@
 -- Which lines are which events, said of their bytes and apart from how they are read: statements only.
-use Prim.Native.Nat.{ℕ, _+_, _-_, _*_, _≤_}
+use Prim.Native.Nat.{ℕ, suc, _+_, _-_, _*_, _≤_}
 use mathlib.Core.Bool.{true}
 use mathlib.Core.List.{List, [], _∷_, _++_}
-use mathlib.Core.Logic.{_↔_, _⊎_}
+use mathlib.Core.Logic.{_↔_, _⊎_, _≢_}
 use mathlib.Core.Path.{_≡_}
 use lib.IntN.{ℤ, pos, negsuc}
 use lib.ListN.{length, getD}
@@ -13,6 +13,7 @@ use Rattle.digits.specs.Digits.{value, areDigits}
 use Rattle.record.specs.declared.Figures.{Figures}
 use Rattle.units.specs.Measurement.{measurementVerdict}
 use Rattle.units.specs.declared.Measurement.{Measurement}
+use Rattle.capture.specs.Words.{before}
 use Rattle.capture.specs.Capture.{eventOf}
 use Rattle.capture.specs.declared.Event.the-variants.{Received, Slots, Measured}
 
@@ -115,3 +116,9 @@ pub record Forms : Type 0 where
   pub measured : (s : List ℕ) (m : Measurement) → (eventOf s ≡ Measured m) ↔ SaysMeasurement s m
   -- and a number below zero where none may stand is refused by 1
   pub beyond : (m : Measurement) → Beyond (m .figures) → (i : ℕ) × (measurementVerdict m ≡ Refused (Field i))
+
+-- what stands before a byte
+pub record OfBefore : Type 0 where
+  pub none : (x : ℕ) → before x [] ≡ 0
+  pub here : (x : ℕ) (s : List ℕ) → before x (x ∷ s) ≡ 0
+  pub later : (x b : ℕ) (s : List ℕ) → b ≢ x → before x (b ∷ s) ≡ suc (before x s)

@@ -2,7 +2,7 @@
 use Prim.Native.Nat.{ℕ, _≤_, _<_}
 use mathlib.Core.Bool.{true, false}
 use mathlib.Core.List.{List, [], _∷_}
-use mathlib.Core.Logic.{_↔_, _⊎_, inl, inr}
+use mathlib.Core.Logic.{_↔_, _⊎_, inl, inr, _≢_}
 use mathlib.Core.Path.{_≡_, refl, sym}
 use native.Mathlib.Omega.{arith}
 use borrow.Author.Tests.{le-leb, lt-leb, leb-true, leb-false, ltb-true}
@@ -17,12 +17,12 @@ use Rattle.capture.proofs.Promises.{forms}
 use Rattle.telling.specs.Printed.{LF}
 use Rattle.telling.specs.Telling.{validRun}
 use Rattle.telling.proofs.Promises.{promised}
-use Rattle.follow.specs.Follow.{textLength, validText, joins, joinedText, validFollower, lineIn, takeOf, takeLeaves, closeOf, closeLeaves}
+use Rattle.follow.specs.Follow.{textLength, validText, heldIn, joins, joinedText, validFollower, lineIn, takeOf, takeLeaves, closeOf, closeLeaves}
 use Rattle.follow.specs.Promises.{EachCall}
 use Rattle.follow.specs.declared.Text.{Text}
 use Rattle.follow.specs.declared.Follower.{Follower}
 use Rattle.follow.proofs.Laws.{valid-text}
-use Rattle.follow.proofs.Each.{ending, Took, invalid, held, whole, short, took, Closed, no-line, closed, within, fits}
+use Rattle.follow.proofs.Each.{ending, Took, invalid, held, whole, short, took, unended, Closed, no-line, closed, within, fits}
 
 -- ---- a follower that is none of ours
 
@@ -103,8 +103,45 @@ close-same (no-line v z e l) x h = never (cc)
 close-same (whole v z k e l) x h = never (cc)
 close-same (short v z k e l) x h = (cc, l)
 
+close-16 : {f : Follower} {out : List ℕ} → Closed f out → (closeOf f out .wrote ≡ Refused State) ↔ (validFollower f ≡ false)
+close-16 (invalid v e l) = (λ h. v, λ n. cc)
+close-16 (no-line v z e l) = (λ h. never (cc), λ n. never (cc))
+close-16 (whole v z k e l) = (λ h. never (cc), λ n. never (cc))
+close-16 (short v z k e l) = (λ h. never (cc), λ n. never (cc))
+
+-- 2 exactly for a line whose text is too long
+close-2 : {f : Follower} {out : List ℕ} → Closed f out → (n : ℕ) →
+    (closeOf f out .wrote ≡ Refused (Room n)) ↔
+    ((validFollower f ≡ true) × (f .text .len ≢ 0) × (length out < length (unended f out .text)) × (n ≡ length (unended f out .text)))
+close-2 (invalid v e l) n = (λ h. never (cc), λ h. never (cc))
+close-2 (no-line v z e l) n = (λ h. never (cc), λ h. absurd (h .1 z))
+close-2 (whole v z k e l) n = (λ h. never (cc), λ h. absurd (omega arith))
+close-2 (short v z k e l) n = (λ h. (v, z, k, cc), λ h. cc)
+
+close-goes-on : {f : Follower} {out : List ℕ} → Closed f out → validFollower f ≡ true → 2997 ≤ length out → (n : ℕ) × (closeOf f out .wrote ≡ Count n)
+close-goes-on (invalid v e l) t h = never (cc)
+close-goes-on (no-line v z e l) t h = (0, cc)
+close-goes-on {f} {out} (whole v z k e l) t h = (length (unended f out .text), cc)
+close-goes-on {f} (short v z k e l) t h =
+    let most = promised .each-call .longest (f .run) _ (λ n s. forms .slots (heldIn (f .text)) n .0 s .high) in
+    absurd (omega arith)
+
+close-valid : {f : Follower} {out : List ℕ} → Closed f out → validFollower f ≡ true → validFollower (closeOf f out .follower) ≡ true
+close-valid (invalid v e l) t = rw e t
+close-valid (no-line v z e l) t = rw e t
+close-valid {f} (whole v z k e l) t = rw e (and-both (promised .each-call .tell-valid (f .run) _ (and-left (validRun (f .run)) _ t)) refl)
+close-valid (short v z k e l) t = rw e t
+
+close-once : {f : Follower} {out : List ℕ} {n : ℕ} → Closed f out → closeOf f out .wrote ≡ Count n → (closeOf f out .used ≡ 0) × (closeOf f out .follower .text .len ≡ 0)
+close-once (invalid v e l) h = never (cc)
+close-once (no-line v z e l) h = (cc, rw e z)
+close-once (whole v z k e l) h = (cc, rw e)
+close-once (short v z k e l) h = never (cc)
+
 pub each-call : EachCall
 each-call = record {
+  begins = λ letter. refl;
+  close-once = λ f out n. close-once (closed f out);
   take-16 = λ f piece out. (
     λ h. foreign f (take-16 (took f piece out) .0 h),
     λ h. take-16 (took f piece out) .1 (is-foreign f h),
@@ -112,6 +149,13 @@ each-call = record {
   take-2 = λ f piece out. take-2 (took f piece out);
   take-same = λ f piece out. take-same (took f piece out);
   close-same = λ f out. close-same (closed f out);
+  close-16 = λ f out. (
+    λ h. foreign f (close-16 (closed f out) .0 h),
+    λ h. close-16 (closed f out) .1 (is-foreign f h),
+  );
+  close-2 = λ f out n. close-2 (closed f out) n;
+  close-goes-on = λ f out. close-goes-on (closed f out);
+  close-valid = λ f out. close-valid (closed f out);
   within = within;
   fits = fits;
   uses-some = λ f piece out. uses-some (took f piece out);

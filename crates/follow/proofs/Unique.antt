@@ -6,10 +6,10 @@ use mathlib.Core.Path.{_≡_}
 use Rattle.laws.proofs.OneAnswer.{one-answer, one-outcome}
 use Rattle.follow.specs.Contracts.{FollowerStart, FollowerIsValid, FollowerTake, FollowerClose}
 use Rattle.follow.specs.declared.Follower.{Follower}
-use Rattle.follow.specs.declared.Begins.{Begins}
+use Rattle.follow.specs.declared.Begun.{Begun}
 use Rattle.follow.specs.declared.Followed.{Followed}
 
-pub one-start : (letter : ℕ) {r r′ : Begins} → FollowerStart letter r → FollowerStart letter r′ → r ≡ r′
+pub one-start : (letter : ℕ) {r r′ : Begun} → FollowerStart letter r → FollowerStart letter r′ → r ≡ r′
 one-start letter = one-answer
 
 pub one-is-valid : (self : Follower) {r r′ : Bool} → FollowerIsValid self r → FollowerIsValid self r′ → r ≡ r′

@@ -6,10 +6,10 @@ use mathlib.Core.Path.{_≡_}
 use Rattle.laws.specs.Gives.{Gives}
 use Rattle.follow.specs.Follow.{beginsWith, validFollower, takeOf, takeLeaves, closeOf, closeLeaves}
 use Rattle.follow.specs.declared.Follower.{Follower}
-use Rattle.follow.specs.declared.Begins.{Begins}
+use Rattle.follow.specs.declared.Begun.{Begun}
 use Rattle.follow.specs.declared.Followed.{Followed}
 
-abbrev pub FollowerStart : ℕ → Begins → Type 0
+abbrev pub FollowerStart : ℕ → Begun → Type 0
 FollowerStart letter r = r ≡ beginsWith letter
 
 abbrev pub FollowerIsValid : Follower → Bool → Type 0

@@ -15,7 +15,7 @@ use Rattle.telling.specs.declared.Run.{Run}
 use Rattle.telling.specs.declared.Told.{Told}
 use Rattle.follow.specs.declared.Text.{Text}
 use Rattle.follow.specs.declared.Follower.{Follower}
-use Rattle.follow.specs.declared.Begins.{Begins}
+use Rattle.follow.specs.declared.Begun.{Begun}
 use Rattle.follow.specs.declared.Followed.{Followed}
 
 -- ---- a line that has not ended
@@ -44,7 +44,7 @@ joinedText t (b ∷ s) = joinedText (joins t b) s
 
 -- ---- a call
 
-abbrev pub beginsWith : ℕ → Begins
+abbrev pub beginsWith : ℕ → Begun
 beginsWith letter = record { verdict = startWith letter .verdict; follower = record { run = startWith letter .run; text = blankText } }
 
 -- 16 covers the run and the count of the line

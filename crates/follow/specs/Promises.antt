@@ -1,11 +1,11 @@
 -- What a replay promises: the whole text that it prints is the definition's for the whole text in, however the pieces fall; what it shows is what the
 -- port's calls send, of which demand 3 is proved. Statements only.
 use Prim.Native.Nat.{ℕ, _+_, _≤_, _<_}
-use mathlib.Core.Bool.{true, false}
+use mathlib.Core.Bool.{Bool, true, false}
 use mathlib.Core.List.{List, [], _∷_, _++_}
 use mathlib.Core.Logic.{_↔_, _⊎_, _≢_}
 use mathlib.Core.Path.{_≡_}
-use lib.ListN.{length, take}
+use lib.ListN.{length, take, replicate}
 use Rattle.machine.specs.Machine.{slots, sent, start}
 use Rattle.machine.specs.Promised.{Promised}
 use Rattle.refusal.specs.declared.Refusal.{Refusal}
@@ -16,16 +16,22 @@ use Rattle.bench_lens.specs.Bench.{benchSettings, benchMeasurement}
 use Rattle.rules.specs.Lens.{lens}
 use Rattle.rules.specs.Promise.{actBy, replyBy, recordBy}
 use Rattle.port.specs.Port.{started}
-use Rattle.walk.specs.Calls.{afterAll, bytesAll, eventsAll, FromStart}
+use Rattle.walk.specs.Calls.{receive, slots-once, measure, after, afterAll, bytesAll, eventsAll, FromStart}
 use Rattle.walk.specs.InCalls.{slotsRun}
+use Rattle.units.specs.declared.Measurement.{Measurement}
+use Rattle.frame.specs.declared.Wrote.{Wrote}
+use Rattle.telling.specs.Contracts.{RunCount, RunIsOver}
+use Rattle.follow.specs.Contracts.{FollowerStart, FollowerTake, FollowerClose}
+use Rattle.follow.specs.declared.Begun.{Begun}
+use Rattle.follow.specs.declared.Followed.{Followed}
 use Rattle.capture.specs.Words.{before}
 use Rattle.capture.specs.Capture.{eventOf}
-use Rattle.capture.specs.declared.Event.the-variants.{Other}
+use Rattle.capture.specs.declared.Event.the-variants.{Received, Slots, Measured, Other}
 use Rattle.telling.specs.Printed.{LF, refusedText, slotsLine}
-use Rattle.telling.specs.Telling.{startWith, validRun, isOver, tellOf}
+use Rattle.telling.specs.Telling.{startWith, validRun, isOver, tellOf, countOf, countLeaves}
 use Rattle.telling.specs.declared.Run.{Run}
 use Rattle.follow.specs.Replay.{lines, tellAll, replayWith, replayOf}
-use Rattle.follow.specs.Follow.{validFollower, lineIn, takeOf, takeLeaves, closeOf, closeLeaves}
+use Rattle.follow.specs.Follow.{beginsWith, heldIn, validFollower, lineIn, takeOf, takeLeaves, closeOf, closeLeaves}
 use Rattle.follow.specs.Calls.{Fed, Replays, heldBy, callsIn, shown}
 use Rattle.follow.specs.declared.Follower.{Follower}
 
@@ -46,6 +52,16 @@ pub record OfLines : Type 0 where
 pub record WholeText : Type 0 where
   -- over any calls, "the whole text out is the definition's for the whole text in"
   pub replays : (letter : ℕ) (input text : List ℕ) → Replays letter input text → text ≡ replayWith (startWith letter .run) input
+  -- and there are such calls for every input, whatever it is
+  pub always : (letter : ℕ) (input : List ℕ) → startWith letter .verdict ≡ Done → Replays letter input (replayWith (startWith letter .run) input)
+  -- line by line, and last the slots
+  pub no-line : (r : Run) → tellAll r [] ≡ record { text = []; run = r }
+  pub line : (r : Run) (l : List ℕ) (ls : List (List ℕ)) →
+      let t = tellOf r (eventOf l) in
+      tellAll r (l ∷ ls) ≡ record { text = t .text ++ tellAll (t .run) ls .text; run = tellAll (t .run) ls .run }
+  pub last-line : (r : Run) (input : List ℕ) → replayWith r input ≡ tellAll r (lines input) .text ++ slotsLine (tellAll r (lines input) .run .slots)
+  -- the session program's start-up letter, I
+  pub letter : (input : List ℕ) → replayOf input ≡ replayWith (startWith 73 .run) input
   -- "Input `S 4` alone prints `3c 0a 0d --` and `slots 4`", empty input `slots 0`
   pub four : replayOf (0x53 ∷ 0x20 ∷ 0x34 ∷ []) ≡
       0x33 ∷ 0x63 ∷ 0x20 ∷ 0x30 ∷ 0x61 ∷ 0x20 ∷ 0x30 ∷ 0x64 ∷ 0x20 ∷ 0x2D ∷ 0x2D ∷ 0x0A ∷ 0x73 ∷ 0x6C ∷ 0x6F ∷ 0x74 ∷ 0x73 ∷ 0x20 ∷ 0x34 ∷ 0x0A ∷ []
@@ -56,6 +72,10 @@ pub record WholeText : Type 0 where
 pub record OfTheCalls : Type 0 where
   -- a start that is accepted is one of the port's
   pub from-start : (letter : ℕ) → startWith letter .verdict ≡ Done → FromStart (heldBy (startWith letter .run))
+  -- an event is the port's call
+  pub on-received : (r : Run) (b : ℕ) → isOver r ≡ false → heldBy (tellOf r (Received b) .run) ≡ after (heldBy r) (receive b)
+  pub on-measured : (r : Run) (m : Measurement) → isOver r ≡ false → heldBy (tellOf r (Measured m) .run) ≡ after (heldBy r) (measure m)
+  pub on-slots : (r : Run) (n : ℕ) → isOver r ≡ false → r .slots + n ≤ 100000 → heldBy (tellOf r (Slots n) .run) ≡ afterAll (heldBy r) (replicate n slots-once)
   -- the port and its line are those of the calls
   pub states : (r : Run) (ls : List (List ℕ)) → heldBy (tellAll r ls .run) ≡ afterAll (heldBy r) (callsIn r ls)
   -- "the number is the machine's `slots` of the events"
@@ -83,6 +103,9 @@ pub record OfTheCalls : Type 0 where
 -- ---- a call
 
 pub record EachCall : Type 0 where
+  -- a start answers as the run's, and a close leaves no line to be told again
+  pub begins : (letter : ℕ) → beginsWith letter .verdict ≡ startWith letter .verdict
+  pub close-once : (f : Follower) (out : List ℕ) (n : ℕ) → closeOf f out .wrote ≡ wrote.Count n → (closeOf f out .used ≡ 0) × (closeOf f out .follower .text .len ≡ 0)
   -- 16 exactly for a run or a count of bytes that is none of ours
   pub take-16 : (f : Follower) (piece out : List ℕ) →
       (takeOf f piece out .wrote ≡ wrote.Refused refusal.State) ↔ ((validRun (f .run) ≡ false) ⊎ (136 < f .text .len))
@@ -97,6 +120,14 @@ pub record EachCall : Type 0 where
       (takeOf f piece out .used ≡ 0) × (takeOf f piece out .follower ≡ f) × (takeLeaves f piece out ≡ out)
   pub close-same : (f : Follower) (out : List ℕ) (x : Refusal) → closeOf f out .wrote ≡ wrote.Refused x →
       (closeOf f out .follower ≡ f) × (closeLeaves f out ≡ out)
+  -- a close is refused in the same cases
+  pub close-16 : (f : Follower) (out : List ℕ) → (closeOf f out .wrote ≡ wrote.Refused refusal.State) ↔ ((validRun (f .run) ≡ false) ⊎ (136 < f .text .len))
+  pub close-2 : (f : Follower) (out : List ℕ) (n : ℕ) →
+      (closeOf f out .wrote ≡ wrote.Refused (refusal.Room n)) ↔
+      ((validFollower f ≡ true) × (f .text .len ≢ 0) × (length out < length (tellOf (f .run) (eventOf (heldIn (f .text))) .text)) ×
+      (n ≡ length (tellOf (f .run) (eventOf (heldIn (f .text))) .text)))
+  pub close-goes-on : (f : Follower) (out : List ℕ) → validFollower f ≡ true → 2997 ≤ length out → (n : ℕ) × (closeOf f out .wrote ≡ wrote.Count n)
+  pub close-valid : (f : Follower) (out : List ℕ) → validFollower f ≡ true → validFollower (closeOf f out .follower) ≡ true
   -- no call uses more than its piece or prints more than the memory holds; one that is not refused uses some of its piece
   pub within : (f : Follower) (piece out : List ℕ) → takeOf f piece out .used ≤ length piece
   pub fits : (f : Follower) (piece out : List ℕ) (n : ℕ) → takeOf f piece out .wrote ≡ wrote.Count n → n ≤ length out
@@ -104,3 +135,13 @@ pub record EachCall : Type 0 where
   -- with room for 999 slots a follower of ours is not refused, and stays one
   pub goes-on : (f : Follower) (piece out : List ℕ) → validFollower f ≡ true → 2997 ≤ length out → (n : ℕ) × (takeOf f piece out .wrote ≡ wrote.Count n)
   pub kept-valid : (f : Follower) (piece out : List ℕ) → validFollower f ≡ true → validFollower (takeOf f piece out .follower) ≡ true
+
+-- ---- the calls are the entries: what each contract leaves
+
+pub record Entries : Type 0 where
+  pub start : (letter : ℕ) (r : Begun) → FollowerStart letter r → r ≡ beginsWith letter
+  pub take : (f : Follower) (piece out : List ℕ) (r : Followed) (after : List ℕ) → FollowerTake f piece out r after →
+      (r ≡ takeOf f piece out) × (after ≡ takeLeaves f piece out)
+  pub close : (f : Follower) (out : List ℕ) (r : Followed) (after : List ℕ) → FollowerClose f out r after → (r ≡ closeOf f out) × (after ≡ closeLeaves f out)
+  pub count : (r : Run) (out : List ℕ) (w : Wrote) (after : List ℕ) → RunCount r out w after → (w ≡ countOf r out) × (after ≡ countLeaves r out)
+  pub is-over : (r : Run) (b : Bool) → RunIsOver r b → b ≡ isOver r

@@ -27,7 +27,7 @@ pub struct Follower {
 }
 
 // What a start hands back.
-pub struct Begins {
+pub struct Begun {
     pub verdict: Verdict,
     pub follower: Follower,
 }
@@ -94,13 +94,13 @@ impl Text {
 
 impl Follower {
     // The session program's lens, started with this start-up letter, and no line yet.
-    pub fn start(letter: u8) -> Begins
+    pub fn start(letter: u8) -> Begun
         ensures { λ r. ⌜ FollowerStart letter r ⌝ }
     {
         let begun = Run::start(letter);
         let verdict = begun.verdict;
         let run = begun.run;
-        Begins {
+        Begun {
             verdict,
             follower: Follower {
                 run,

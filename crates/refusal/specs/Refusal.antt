@@ -1,4 +1,4 @@
--- Document 01's table of refusal numbers.
+-- Document 01's table of refusal numbers, with 9 and 10, which requests [1] and [3] give.
 use Prim.Native.Nat.{ℕ}
 use Rattle.refusal.specs.declared.Refusal.{Refusal}
 use Rattle.refusal.specs.declared.Refusal.the-variants.{Field, Room, Length, End, Checksum, Contents, Dropped, Setting, TooLong, Form, State}

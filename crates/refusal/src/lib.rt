@@ -1,4 +1,4 @@
-// The refusals of document 01, each with the number and the value that the paper gives it.
+// The refusals of document 01 and the requests, each with the number and the value that the paper gives it.
 ghost use Rattle.refusal.specs.Contracts.{NumberOf, ValueOf};
 
 pub enum Refusal {
@@ -22,7 +22,7 @@ pub enum Refusal {
     TooLong,
     // 10: a line of a capture of other form than its three.
     Form,
-    // 16: a handed-in state, collector or cutter that is not one of ours.
+    // 16: a handed-in state, collector, cutter, run or follower that is not one of ours.
     State,
 }
 

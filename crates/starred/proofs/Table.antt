@@ -10,7 +10,8 @@ use Rattle.pupil.specs.Pupil.{pupilText, pupilPacked}
 use Rattle.record.specs.Forms.{frontText, middleText, backText, frontPacked, middlePacked, backPacked, serial, textForm, packedForm}
 use Rattle.record.specs.Places.{packedPlaces}
 use Rattle.units.specs.Units.{byUnit, sizeIn, numberIn, inRange, conversion}
-use Rattle.starred.specs.Starred.{likeR, recordR, textR, packedR, Starred}
+use Rattle.bench_lens.specs.Bench.{letterOf}
+use Rattle.starred.specs.Starred.{likeR, recordR, Session, textR, packedR, Starred}
 
 pub starred : Starred
 unfolding likeR recordR textR packedR digits fieldOf packedPlaces xorFrom sumOf ending pointed stopText stop pair pupilText pupilPacked frontText middleText backText frontPacked middlePacked backPacked serial textForm packedForm unless byUnit sizeIn numberIn inRange conversion
@@ -31,3 +32,7 @@ starred = record {
   inch-25 = refl;
   inch-minus-25 = refl;
 }
+
+pub session : Session
+unfolding likeR recordR letterOf
+session = record { measurement = refl; serial = λ letter. refl; letter = refl }

@@ -12,6 +12,7 @@ use Rattle.record.specs.Forms.{textForm, packedForm}
 use Rattle.record.specs.Places.{packedPlaces}
 use Rattle.record.specs.declared.Record.{Record}
 use Rattle.units.specs.Units.{conversion}
+use Rattle.bench_lens.specs.Bench.{letterOf, benchSettings, benchMeasurement}
 
 -- record R, but for its focus distance, ring stop, tenth, entrance pupil and zoom
 unfoldable pub likeR : ℕ → ℕ → ℕ → ℤ → ℕ → Record
@@ -35,6 +36,12 @@ likeR focus stop tenth pupil zoom = record {
 -- 798, 680, 56, 5, 0, 6123, 711, 909, 273, 23, 0, 4050.0093
 unfoldable pub recordR : Record
 recordR = likeR 798 56 5 (pos 23) 0
+
+-- "measurement R, unit I, 21 degrees", the serial of R, and I where no start-up letter is given
+pub record Session : Type 0 where
+  pub measurement : benchMeasurement ≡ record { unit = 0x49; figures = recordR .figures; temperature = pos 21 }
+  pub serial : (letter : ℕ) → benchSettings letter .fixed .serial ≡ recordR .serial
+  pub letter : letterOf [] ≡ 0x49
 
 -- field i of the packed record, and the pair that fields 3 and 4 share
 abbrev pub packedField : ℕ → Record → List ℕ

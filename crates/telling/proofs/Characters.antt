@@ -1,18 +1,22 @@
 -- Hex digits read back, and a number is written without a zero before it: by the range that each test of a digit and of a width leaves. Assumes nothing.
 use Prim.Native.Nat.{ℕ, suc, _+_, _-_, _/_, _^_, _≤_, _<_}
 use mathlib.Core.Bool.{true}
+use mathlib.Core.List.{List, [], _∷_, _++_}
+use Rattle.refusal.specs.Refusal.{numberOf}
+use Rattle.port.specs.declared.Port.{Port}
+use Rattle.port.specs.Port.{slotOf}
 use mathlib.Core.Logic.{_⊎_, _≢_, inl, inr, ⊎-elim}
-use mathlib.Core.Path.{_≡_, refl, _∙_}
+use mathlib.Core.Path.{_≡_, refl, ap, _∙_}
 use native.Mathlib.Nat.{mod-eq-of-lt, pow-succ', one-le-pow, le-div-iff-mul-le, div-lt-iff-lt-mul}
 use native.Mathlib.Omega.{arith}
-use borrow.Author.Tests.{ltb-true, ltb-false, lt-ltb}
+use borrow.Author.Tests.{ltb-true, ltb-false, lt-ltb, ne-eqb}
 use lib.Dec.{ltb}
 use lib.ListN.{length, getD}
-use Rattle.laws.proofs.Tests.{cond-yes, by}
+use Rattle.laws.proofs.Tests.{cond-yes, cond-no, by}
 use Rattle.digits.specs.Digits.{digits, value, areDigits, decimal}
 use Rattle.digits.proofs.Laws.{length-digits, are-digits, value-digits}
 use Rattle.capture.proofs.Texts.{hex-reads}
-use Rattle.telling.specs.Printed.{hexDigit, widthOf, numeral}
+use Rattle.telling.specs.Printed.{hexDigit, widthOf, numeral, labelled, slotText, separator, slotsText}
 use Rattle.telling.specs.Promises.{Characters}
 use Rattle.telling.proofs.Laws.{length-slots}
 
@@ -87,6 +91,18 @@ one-digit : (n : ℕ) → n < 10 → length (numeral n) ≡ 1
 unfolding widthOf
 one-digit n h = length-numeral n ∙ cond-yes _ _ (lt-ltb n 10 h)
 
+line-of : (label : List ℕ) (n : ℕ) → labelled label n ≡ label ++ (numeral n ++ 10 ∷ [])
+unfolding labelled
+line-of label n = refl
+
+last-of-line : (p : Port) → slotsText 1 p ≡ slotText (slotOf p .sent) ++ 10 ∷ []
+unfolding slotsText separator
+last-of-line p = refl
+
+spaced : (n : ℕ) (p : Port) → slotsText (suc (suc n)) p ≡ slotText (slotOf p .sent) ++ 32 ∷ slotsText (suc n) (slotOf p .port)
+unfolding slotsText separator
+spaced n p = ap (λ (c : ℕ). slotText (slotOf p .sent) ++ c ∷ slotsText (suc n) (slotOf p .port)) (cond-no _ _ (ne-eqb (suc n) 0 (λ e. absurd (omega arith))))
+
 pub characters : Characters
 characters = record {
   hex-digit = λ n h. ⊎-elim (λ d. inl (d .0, d .1)) (λ d. inr (d .0, d .1)) (hex-is n h);
@@ -96,5 +112,11 @@ characters = record {
   digits = reads;
   no-zero = no-zero;
   one-digit = one-digit;
+  slots-line = λ n. line-of _ n;
+  refused-line = λ x. line-of _ (numberOf x);
+  dropped-7 = refl;
+  form-10 = refl;
+  last-of-line = last-of-line;
+  spaced = spaced;
   long = length-slots;
 }

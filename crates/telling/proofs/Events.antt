@@ -2,13 +2,13 @@
 use Prim.Native.Nat.{ℕ, zero, suc, _+_, _-_, _≤_}
 use mathlib.Core.Bool.{Bool, true, false, _||_, or-true}
 use mathlib.Core.List.{[]}
-use mathlib.Core.Logic.{_⊎_, _≢_, inl, inr, ⊎-elim}
+use mathlib.Core.Logic.{_↔_, _⊎_, _≢_, inl, inr, ⊎-elim}
 use mathlib.Core.Path.{_≡_, refl, sym, ap, _∙_}
 use native.Mathlib.Omega.{arith}
-use borrow.Author.Tests.{ltb-true, ltb-false, le-leb}
+use borrow.Author.Tests.{ltb-true, ltb-false, le-leb, leb-true}
 use lib.Dec.{leb, ltb, eqb}
 use lib.ListN.{length, length-append}
-use Rattle.laws.proofs.Tests.{cond-yes, cond-no, by, never, and-both}
+use Rattle.laws.proofs.Tests.{cond-yes, cond-no, told, by, never, and-both}
 use Rattle.refusal.specs.Refusal.{numberOf}
 use Rattle.refusal.specs.declared.Refusal.{Refusal}
 use Rattle.refusal.specs.declared.Refusal.the-variants as refusal
@@ -24,7 +24,7 @@ use Rattle.port.proofs.Promises.{refused-same, kept-valid}
 use Rattle.port.proofs.Cases.{by-case, judged-measure}
 use Rattle.capture.specs.declared.Event.{Event}
 use Rattle.capture.specs.declared.Event.the-variants.{Received, Slots, Measured, Other}
-use Rattle.telling.specs.Printed.{slotsText, afterSlots, numeral, labelled, refusedText, verdictText}
+use Rattle.telling.specs.Printed.{slotsText, afterSlots, numeral, labelled, refusedText, slotsLine, verdictText}
 use Rattle.telling.specs.Telling.{lastSlot, validRun, isOver, slotsLeft, Telling, tells, tellOf}
 use Rattle.telling.specs.Promises.{OfEvents}
 use Rattle.telling.specs.declared.Run.{Run}
@@ -156,12 +156,19 @@ last-slot r n k o e l =
     let after = tellOf r (Slots n) .run in
     (all, t .1, rw (le-leb 100000 (after .slots) (omega arith)) (or-true (after .stopped)))
 
+ends : (r : Run) → (isOver r ≡ true) ↔ ((r .stopped ≡ true) ⊎ (100000 ≤ r .slots))
+ends r = (
+  λ o. told (r .stopped) (λ s. inl s) (λ s. inr (leb-true _ _ (rw s at o))),
+  ⊎-elim (λ s. rw s) (λ h. rw (le-leb 100000 (r .slots) h) (or-true (r .stopped))),
+)
+
 pub of-events : OfEvents
 of-events = record {
   received = received;
   dropped = dropped;
   measured = measured;
   refused = refused;
+  ends = ends;
   other = other;
   goes-on = goes-on;
   received-slots = received-slots;
@@ -227,3 +234,10 @@ tells-most r Other h = let l = refused-short refusal.Form in omega arith
 
 pub longest : (r : Run) (e : Event) → ((n : ℕ) → e ≡ Slots n → n ≤ 999) → length (tellOf r e .text) ≤ 2997
 longest r e h = by-end r e (λ (t : Telling). length (t .text) ≤ 2997) (omega arith) (tells-most r e h)
+
+pub short-line : (n : ℕ) → length (slotsLine n) ≤ 3000
+unfolding labelled
+short-line n = rw (length-append (numeral n) _) (let w = six-at-most n in omega arith)
+
+pub fits-left : (r : Run) (n : ℕ) → isOver r ≡ false → r .slots + n ≤ 100000 → slotsLeft r n ≡ n
+fits-left r n o h = left-is r n n o h (omega arith) (inl refl)

@@ -1,18 +1,43 @@
 -- The promises hold: characters, events, and each call by the three things that it may answer. Assumes nothing.
-use mathlib.Core.Path.{sym, _∙_}
+use Prim.Native.Nat.{ℕ, _≤_}
+use mathlib.Core.Bool.{true}
+use mathlib.Core.List.{List}
+use mathlib.Core.Path.{_≡_, sym, _∙_}
+use borrow.Author.Tests.{le-leb}
+use lib.ListN.{length}
+use Rattle.laws.specs.Over.{over}
+use Rattle.laws.proofs.Tests.{cond-yes}
+use Rattle.refusal.specs.Answer.{unless}
+use Rattle.frame.specs.Message.{roomFor}
+use Rattle.frame.specs.declared.Wrote.the-variants as wrote
+use Rattle.capture.specs.declared.Event.{Event}
+use Rattle.telling.specs.declared.Run.{Run}
 use Rattle.telling.specs.Printed.{slotsLine}
-use Rattle.telling.specs.Telling.{tellOf, toldLeaves, countOf, countLeaves}
+use Rattle.telling.specs.Telling.{validRun, tellOf, toldOf, toldLeaves, countOf, countLeaves}
 use Rattle.telling.specs.Promises.{EachCall, Promised}
 use Rattle.telling.proofs.Characters.{characters}
 use Rattle.telling.proofs.Events.{of-events, tell-valid, longest}
 use Rattle.telling.proofs.Calls.{foreign, is-foreign, call-16, call-2, call-same, told-wrote, told-same}
-use Rattle.telling.proofs.Start.{start-done, start-valid}
+use Rattle.telling.proofs.Start.{start-done, start-valid, start-is, start-none}
+
+module _ (r : Run) (out : List ℕ) (v : validRun r ≡ true) where
+  tell-done : (e : Event) → length (tellOf r e .text) ≤ length out →
+      (toldOf r e out ≡ record { wrote = wrote.Count (length (tellOf r e .text)); run = tellOf r e .run }) × (toldLeaves r e out ≡ over out 0 (tellOf r e .text))
+  unfolding toldOf toldLeaves roomFor unless
+  tell-done e h = (cond-yes _ _ v ∙ rw (le-leb _ _ h), cond-yes _ _ v)
+
+  count-done : length (slotsLine (r .slots)) ≤ length out →
+      (countOf r out ≡ wrote.Count (length (slotsLine (r .slots)))) × (countLeaves r out ≡ over out 0 (slotsLine (r .slots)))
+  unfolding countOf countLeaves roomFor unless
+  count-done h = (cond-yes _ _ v ∙ rw (le-leb _ _ h), cond-yes _ _ v)
 
 each-call : EachCall
 unfolding toldLeaves countOf countLeaves
 each-call = record {
   start-done = start-done;
   start-valid = start-valid;
+  start-is = start-is;
+  start-none = start-none;
   tell-16 = λ r e out. (
     λ h. foreign r (call-16 r (tellOf r e .text) out .0 (sym (told-wrote r e out) ∙ h)),
     λ f. told-wrote r e out ∙ call-16 r (tellOf r e .text) out .1 (is-foreign r f),
@@ -23,6 +48,10 @@ each-call = record {
   );
   tell-same = λ r e out x h. (told-same r e out x h, call-same r (tellOf r e .text) out x (sym (told-wrote r e out) ∙ h));
   count-same = λ r out x h. call-same r (slotsLine (r .slots)) out x h;
+  tell-done = λ r e out v h. tell-done r out v e h;
+  count-16 = λ r out. call-16 r (slotsLine (r .slots)) out;
+  count-2 = λ r out n. call-2 r (slotsLine (r .slots)) out n;
+  count-done = λ r out v h. count-done r out v h;
   tell-valid = tell-valid;
   longest = longest;
 }

@@ -1,15 +1,26 @@
 -- A start is judged by its letter alone: the bench lens is in range with the letter I, and the letter is one row of the table of ranges. Assumes nothing.
 use Prim.Native.Nat.{ℕ}
-use mathlib.Core.Bool.{true, _||_}
+use mathlib.Core.Bool.{true, false, _||_}
 use mathlib.Core.Logic.{_↔_, _⊎_, inl, inr}
-use mathlib.Core.Path.{_≡_, refl, sym, ap, _∙_}
+use mathlib.Core.Path.{_≡_, refl, sym, ap, ap₂, _∙_}
 use native.Mathlib.Omega.{arith}
 use borrow.Author.Tests.{eqb-true, eqb-false}
 use lib.Dec.{eqb}
 use Rattle.laws.proofs.Tests.{told, never}
 use Rattle.refusal.specs.declared.Refusal.the-variants.{Setting}
 use Rattle.refusal.specs.declared.Verdict.the-variants.{Done, Refused}
-use Rattle.fixed.specs.Fixed.{settingsLowest}
+use Rattle.refusal.specs.declared.Refusal.{Refusal}
+use Rattle.laws.specs.Every.{every}
+use Rattle.laws.specs.Within.{within}
+use Rattle.codec.specs.Codec.{failing, first, textOk}
+use Rattle.stop.specs.Stop.{stopOk}
+use Rattle.record.specs.Record.{frontLowest, middleLowest, backLowest, figuresLowest}
+use Rattle.fixed.specs.Fixed.{kindOk, letterOk, lensLowest, fixedLowest, settingsLowest}
+use Rattle.units.specs.Units.{byUnit}
+use Rattle.units.specs.Measurement.{measurementLowest, measurementVerdict}
+use Rattle.state.specs.State.{validModes, validMessage, validSource}
+use Rattle.line.specs.declared.Line.{Line}
+use Rattle.port.specs.declared.Port.{Port}
 use Rattle.fixed.proofs.Ranges.{settings-by-table}
 use Rattle.bench_lens.specs.Bench.{benchSettings, benchMeasurement}
 use Rattle.line.specs.Line.{blank, validLine}
@@ -17,8 +28,8 @@ use Rattle.line.proofs.Laws.{blank-valid}
 use Rattle.rules.specs.Tight.{bench}
 use Rattle.rules.proofs.Tight.{tight}
 use Rattle.rules.proofs.Valid.{Valid, valid-told}
-use Rattle.port.specs.Port.{unstarted}
-use Rattle.port.proofs.Promises.{leaves-new, start-verdict, kept-valid}
+use Rattle.port.specs.Port.{unstarted, started, validPort, unitOf}
+use Rattle.port.proofs.Promises.{leaves-new, start-verdict, kept-valid, refused-same}
 use Rattle.port.proofs.Cases.{good-settings, by-case}
 use Rattle.telling.specs.Telling.{startWith, validRun}
 use Rattle.telling.proofs.Laws.{is-ours}
@@ -83,3 +94,18 @@ module _ (l : ℕ) where
         line = ap validLine (leaves-new unstarted blank _ _ d .1) ∙ blank-valid;
         slots = omega arith;
       })
+
+  pub start-is : startWith l .verdict ≡ Done →
+      startWith l .run ≡ record { port = started (benchSettings l) benchMeasurement; line = blank; slots = 0; stopped = false }
+  unfolding startWith
+  start-is d =
+      let n = leaves-new unstarted blank (benchSettings l) benchMeasurement d in
+      ap₂ (λ (p : Port) (q : Line). record { port = p; line = q; slots = 0; stopped = false }) (n .0) (n .1)
+
+  unstarted-none : validPort unstarted ≡ false
+  unfolding validPort validSource validMessage validModes settingsLowest measurementVerdict measurementLowest figuresLowest frontLowest middleLowest backLowest failing first textOk every kindOk letterOk lensLowest fixedLowest byUnit stopOk within unitOf
+  unstarted-none = refl
+
+  pub start-none : (x : Refusal) → startWith l .verdict ≡ Refused x → validRun (startWith l .run) ≡ false
+  unfolding startWith validRun
+  start-none x d = rw (refused-same .start unstarted blank (benchSettings l) benchMeasurement x d .0, unstarted-none)

@@ -1,7 +1,7 @@
 -- What an event prints and leaves, beside its exact answer: statements only.
-use Prim.Native.Nat.{ℕ, _+_, _*_, _/_, _%_, _^_, _≤_, _<_}
+use Prim.Native.Nat.{ℕ, suc, _+_, _*_, _/_, _%_, _^_, _≤_, _<_}
 use mathlib.Core.Bool.{true, false}
-use mathlib.Core.List.{List, [], _∷_}
+use mathlib.Core.List.{List, [], _∷_, _++_}
 use mathlib.Core.Logic.{_↔_, _⊎_, _≢_}
 use mathlib.Core.Path.{_≡_}
 use lib.ListN.{length, getD}
@@ -12,14 +12,16 @@ use Rattle.refusal.specs.declared.Verdict.the-variants.{Done, Refused}
 use Rattle.digits.specs.Digits.{value, areDigits}
 use Rattle.frame.specs.declared.Wrote.the-variants as wrote
 use Rattle.units.specs.declared.Measurement.{Measurement}
+use Rattle.laws.specs.Over.{over}
+use Rattle.bench_lens.specs.Bench.{benchSettings, benchMeasurement}
 use Rattle.line.specs.Line.{blank, validLine}
 use Rattle.port.specs.declared.Port.{Port}
 use Rattle.port.specs.declared.Sent.the-variants as sent
-use Rattle.port.specs.Port.{validPort, receiveOf, measureOf}
+use Rattle.port.specs.Port.{validPort, slotOf, receiveOf, measureOf, started}
 use Rattle.capture.specs.Numbers.{hexValue}
 use Rattle.capture.specs.declared.Event.{Event}
 use Rattle.capture.specs.declared.Event.the-variants.{Received, Slots, Measured, Other}
-use Rattle.telling.specs.Printed.{hexDigit, slotText, slotsText, numeral, refusedText}
+use Rattle.telling.specs.Printed.{hexDigit, slotText, slotsText, numeral, refusedText, slotsLine}
 use Rattle.telling.specs.Telling.{startWith, validRun, isOver, tellOf, toldOf, toldLeaves, countOf, countLeaves}
 use Rattle.telling.specs.declared.Run.{Run}
 
@@ -36,6 +38,14 @@ pub record Characters : Type 0 where
   pub digits : (n : ℕ) → n < 10 ^ 6 → (areDigits 10 48 (numeral n) ≡ true) × (value 10 48 (numeral n) ≡ n)
   pub no-zero : (n : ℕ) → n < 10 ^ 6 → 10 ≤ n → getD (numeral n) 0 0 ≢ 48
   pub one-digit : (n : ℕ) → n < 10 → length (numeral n) ≡ 1
+  -- a line is its label, one space, the number and LF
+  pub slots-line : (n : ℕ) → slotsLine n ≡ 0x73 ∷ 0x6C ∷ 0x6F ∷ 0x74 ∷ 0x73 ∷ 0x20 ∷ (numeral n ++ 10 ∷ [])
+  pub refused-line : (x : Refusal) → refusedText x ≡ 0x72 ∷ 0x65 ∷ 0x66 ∷ 0x75 ∷ 0x73 ∷ 0x65 ∷ 0x64 ∷ 0x20 ∷ (numeral (numberOf x) ++ 10 ∷ [])
+  pub dropped-7 : numberOf refusal.Dropped ≡ 7
+  pub form-10 : numberOf refusal.Form ≡ 10
+  -- "separated by spaces", one line
+  pub last-of-line : (p : Port) → slotsText 1 p ≡ slotText (slotOf p .sent) ++ 10 ∷ []
+  pub spaced : (n : ℕ) (p : Port) → slotsText (suc (suc n)) p ≡ slotText (slotOf p .sent) ++ 32 ∷ slotsText (suc n) (slotOf p .port)
   -- three characters a slot
   pub long : (n : ℕ) (p : Port) → length (slotsText n p) ≡ 3 * n
 
@@ -52,6 +62,8 @@ pub record OfEvents : Type 0 where
   pub measured : (r : Run) (m : Measurement) → isOver r ≡ false → measureOf (r .port) m .verdict ≡ Done → tellOf r (Measured m) .text ≡ []
   pub refused : (r : Run) (m : Measurement) (x : Refusal) → isOver r ≡ false → validRun r ≡ true → measureOf (r .port) m .verdict ≡ Refused x →
       (numberOf x ≡ 1) × (tellOf r (Measured m) .text ≡ refusedText x) × (tellOf r (Measured m) .run ≡ r)
+  -- a run is over by a line of other form or by its last slot, and by nothing else
+  pub ends : (r : Run) → (isOver r ≡ true) ↔ ((r .stopped ≡ true) ⊎ (100000 ≤ r .slots))
   -- 10 ends the run, and no other event but the last slot does
   pub other : (r : Run) → isOver r ≡ false →
       (tellOf r Other .text ≡ refusedText refusal.Form) ×
@@ -73,6 +85,11 @@ pub record EachCall : Type 0 where
   -- a start is accepted exactly for the letters I, M, B and b, and is then a run of ours
   pub start-done : (letter : ℕ) → (startWith letter .verdict ≡ Done) ↔ ((letter ≡ 73) ⊎ (letter ≡ 77) ⊎ (letter ≡ 66) ⊎ (letter ≡ 98))
   pub start-valid : (letter : ℕ) → startWith letter .verdict ≡ Done → validRun (startWith letter .run) ≡ true
+  -- and it is the session program's
+  pub start-is : (letter : ℕ) → startWith letter .verdict ≡ Done →
+      startWith letter .run ≡ record { port = started (benchSettings letter) benchMeasurement; line = blank; slots = 0; stopped = false }
+  -- a refused start leaves a run that is none
+  pub start-none : (letter : ℕ) (x : Refusal) → startWith letter .verdict ≡ Refused x → validRun (startWith letter .run) ≡ false
   -- 16 exactly for a port, a line or a count of slots that is none of ours
   pub tell-16 : (r : Run) (e : Event) (out : List ℕ) →
       (toldOf r e out .wrote ≡ wrote.Refused refusal.State) ↔
@@ -83,6 +100,14 @@ pub record EachCall : Type 0 where
   -- a refusal changes nothing
   pub tell-same : (r : Run) (e : Event) (out : List ℕ) (x : Refusal) → toldOf r e out .wrote ≡ wrote.Refused x → (toldOf r e out .run ≡ r) × (toldLeaves r e out ≡ out)
   pub count-same : (r : Run) (out : List ℕ) (x : Refusal) → countOf r out ≡ wrote.Refused x → countLeaves r out ≡ out
+  -- where no case holds, the text is printed
+  pub tell-done : (r : Run) (e : Event) (out : List ℕ) → validRun r ≡ true → length (tellOf r e .text) ≤ length out →
+      (toldOf r e out ≡ record { wrote = wrote.Count (length (tellOf r e .text)); run = tellOf r e .run }) × (toldLeaves r e out ≡ over out 0 (tellOf r e .text))
+  pub count-16 : (r : Run) (out : List ℕ) → (countOf r out ≡ wrote.Refused refusal.State) ↔ (validRun r ≡ false)
+  pub count-2 : (r : Run) (out : List ℕ) (n : ℕ) →
+      (countOf r out ≡ wrote.Refused (refusal.Room n)) ↔ ((validRun r ≡ true) × (length out < length (slotsLine (r .slots))) × (n ≡ length (slotsLine (r .slots))))
+  pub count-done : (r : Run) (out : List ℕ) → validRun r ≡ true → length (slotsLine (r .slots)) ≤ length out →
+      (countOf r out ≡ wrote.Count (length (slotsLine (r .slots)))) × (countLeaves r out ≡ over out 0 (slotsLine (r .slots)))
   -- a run of ours stays one
   pub tell-valid : (r : Run) (e : Event) → validRun r ≡ true → validRun (tellOf r e .run) ≡ true
   -- no event prints more than 999 slots do

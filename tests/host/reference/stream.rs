@@ -84,7 +84,7 @@ pub struct Recorder<'a> {
 
 impl Recorder<'_> {
     /// Fixed data is over with the first message that its reader accepts, plain, whatever room it is lent; or it was over before.
-    pub fn new(stream: &Stream, packed: bool, with_sum: bool, opened: bool) -> Recorder {
+    pub fn new(stream: &Stream, packed: bool, with_sum: bool, opened: bool) -> Recorder<'_> {
         let accepted = |&(_, message): &(usize, &[u8])| judged(message, |m| lens::fixed_data(m, false).map(|_| 0)).is_ok();
         let first = stream.messages().find(accepted).map_or(usize::MAX, |(end, _)| end);
         Recorder { stream, packed, with_sum, records: if opened { 0 } else { first } }
