@@ -1,28 +1,26 @@
 -- A call by its cases: refused, held, told, or short of room; what is promised of each call is read off them. Assumes nothing.
 use Prim.Native.Nat.{ℕ, _+_, _≤_, _<_}
-use mathlib.Core.Bool.{true, false, _&&_}
-use mathlib.Core.List.{List, []}
+use mathlib.Core.Bool.{true, false}
+use mathlib.Core.List.{List}
 use mathlib.Core.Logic.{_⊎_, inl, inr, ⊎-elim}
-use mathlib.Core.Path.{_≡_, refl, sym, ap, subst, _∙_}
+use mathlib.Core.Path.{_≡_, refl, sym, ap, _∙_}
 use native.Mathlib.Omega.{arith}
-use borrow.Author.Tests.{eq-eqb, ne-eqb, eqb-true, eqb-false, le-leb, lt-leb, leb-true, leb-false}
+use borrow.Author.Tests.{eqb-true, eqb-false, le-leb, lt-leb, leb-true, leb-false}
 use lib.Dec.{leb, eqb}
 use lib.ListN.{length, take}
 use Rattle.laws.specs.Over.{over}
 use Rattle.laws.proofs.OverLaws.{over-short}
-use Rattle.laws.proofs.Tests.{told, never, and-left, cond-yes, cond-no}
+use Rattle.laws.proofs.Tests.{told, never, and-left, cond-yes}
 use Rattle.refusal.specs.Answer.{unless}
-use Rattle.refusal.specs.declared.Refusal.{Refusal}
 use Rattle.refusal.specs.declared.Refusal.the-variants as refusal
 use Rattle.frame.specs.Message.{roomFor}
-use Rattle.frame.specs.declared.Wrote.{Wrote}
 use Rattle.frame.specs.declared.Wrote.the-variants.{Count, Refused}
 use Rattle.capture.specs.Words.{before}
 use Rattle.capture.specs.Capture.{eventOf}
 use Rattle.capture.specs.declared.Event.{Event}
 use Rattle.capture.proofs.Words.{before-low}
-use Rattle.telling.specs.Printed.{LF, printedIn, slotsLine}
-use Rattle.telling.specs.Telling.{validRun, Telling, tellOf, toldOf, toldLeaves, countOf, countLeaves}
+use Rattle.telling.specs.Printed.{LF, printedIn}
+use Rattle.telling.specs.Telling.{validRun, Telling, tellOf, toldOf, toldLeaves}
 use Rattle.telling.specs.declared.Run.{Run}
 use Rattle.telling.specs.declared.Told.{Told}
 use Rattle.follow.specs.Follow.{blankText, validText, heldIn, validFollower, followedBy, refusedState, holds, lineIn, takeOf, takeLeaves, closeOf, closeLeaves}

@@ -17,7 +17,7 @@ use Rattle.rules.specs.Does.{isOn}
 use Rattle.capture.specs.Words.{before, behind, word, spaces, sole}
 use Rattle.capture.specs.Numbers.{numberOf}
 use Rattle.capture.specs.Capture.{slotsBy, eventOf}
-use Rattle.machine.specs.Machine.{State, Events, slot, sent, start}
+use Rattle.machine.specs.Machine.{sent, start}
 use Rattle.machine.specs.Promised.{Promised}
 use Rattle.refusal.specs.declared.Verdict.the-variants.{Done}
 use Rattle.digits.specs.Digits.{digits, value, readDigits, readField}
@@ -29,7 +29,7 @@ use Rattle.rules.specs.Promise.{actBy, replyBy, recordBy}
 use Rattle.port.specs.declared.Port.{Port}
 use Rattle.port.specs.Port.{unstarted, started, startOf, startVerdict, handed, unitOf, slotOf, sendFrom, chooseOf, restOf, actOf, movedIf, validPort}
 use Rattle.port.proofs.Promises.{leaves-new}
-use Rattle.walk.specs.Calls.{slots-once, afterAll, bytesAll, eventsAll}
+use Rattle.walk.specs.Calls.{slots-once, afterAll, eventsAll}
 use Rattle.walk.proofs.Calls.{of-the-port}
 use Rattle.telling.specs.Printed.{widthOf, labelled, slotsText, afterSlots, separator, hexDigit}
 use Rattle.telling.specs.Telling.{startWith, validRun, isOver, tellOf, tells, slotsLeft}

@@ -1,14 +1,13 @@
 -- However the pieces fall, the calls print what the lines of the whole text tell: the follower has the line that has not ended yet. Assumes nothing.
-use Prim.Native.Nat.{ℕ, suc, _+_, _≤_, _<_}
-use mathlib.Core.Bool.{true, false}
+use Prim.Native.Nat.{ℕ, _+_, _≤_, _<_}
 use mathlib.Core.List.{List, [], _∷_, _++_, append-assoc, append-nil}
-use mathlib.Core.Logic.{_⊎_, inl, inr, ⊎-elim}
+use mathlib.Core.Logic.{_⊎_, ⊎-elim}
 use mathlib.Core.Path.{_≡_, refl, sym, ap, ap₂, subst, _∙_}
 use native.Mathlib.Numerals.{add-one}
 use native.Mathlib.Omega.{arith}
 use borrow.Author.Tests.{leb-true, leb-false}
 use lib.Dec.{leb}
-use lib.ListN.{length, take, replicate, length-replicate}
+use lib.ListN.{length, take}
 use lib.Seq.{take-all, take-at, take-append-le, length-take-le}
 use Rattle.laws.specs.Over.{over}
 use Rattle.laws.proofs.OverLaws.{take-over}
@@ -26,7 +25,6 @@ use Rattle.follow.specs.Replay.{lines, tellAll, replayWith}
 use Rattle.follow.specs.Follow.{textLength, blankText, heldIn, joinedText, holds, lineIn, takeOf, takeLeaves, closeOf, closeLeaves}
 use Rattle.follow.specs.Calls.{Fed, no-more, next, Replays}
 use Rattle.follow.specs.Promises.{Unbroken}
-use Rattle.follow.specs.declared.Text.{Text}
 use Rattle.follow.specs.declared.Follower.{Follower}
 use Rattle.follow.specs.declared.Followed.{Followed}
 use Rattle.follow.proofs.Laws.{Sound, held-long, held-joined, joined-sound}

@@ -12,10 +12,8 @@ use Rattle.refusal.specs.declared.Refusal.{Refusal}
 use Rattle.refusal.specs.declared.Refusal.the-variants as refusal
 use Rattle.refusal.specs.declared.Verdict.the-variants.{Done}
 use Rattle.frame.specs.declared.Wrote.the-variants as wrote
-use Rattle.bench_lens.specs.Bench.{benchSettings, benchMeasurement}
 use Rattle.rules.specs.Lens.{lens}
 use Rattle.rules.specs.Promise.{actBy, replyBy, recordBy}
-use Rattle.port.specs.Port.{started}
 use Rattle.walk.specs.Calls.{receive, slots-once, measure, after, afterAll, bytesAll, eventsAll, FromStart}
 use Rattle.walk.specs.InCalls.{slotsRun}
 use Rattle.units.specs.declared.Measurement.{Measurement}
@@ -32,7 +30,7 @@ use Rattle.telling.specs.Telling.{startWith, validRun, isOver, tellOf, countOf,
 use Rattle.telling.specs.declared.Run.{Run}
 use Rattle.follow.specs.Replay.{lines, tellAll, replayWith, replayOf}
 use Rattle.follow.specs.Follow.{beginsWith, heldIn, validFollower, lineIn, takeOf, takeLeaves, closeOf, closeLeaves}
-use Rattle.follow.specs.Calls.{Fed, Replays, heldBy, callsIn, shown}
+use Rattle.follow.specs.Calls.{Replays, heldBy, callsIn, shown}
 use Rattle.follow.specs.declared.Follower.{Follower}
 
 -- ---- the lines of a text

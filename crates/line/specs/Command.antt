@@ -1,6 +1,6 @@
 -- Which command a line is: known by its whole line, to the byte, everything else unknown. Letters stand as their bytes: 66 is B.
 use Prim.Native.Nat.{ℕ, _+_, _-_, _*_, _≤_}
-use mathlib.Core.Bool.{Bool, cond, _&&_}
+use mathlib.Core.Bool.{cond, _&&_}
 use mathlib.Core.Path.{_≡_}
 use mathlib.Core.List.{List, [], _∷_}
 use lib.Dec.{leb, eqb}

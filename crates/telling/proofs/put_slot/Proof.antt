@@ -1,5 +1,5 @@
 -- `telling::put_slot` meets its contract: two characters either way. Assumes nothing.
-use mathlib.Core.List.{List, [], _∷_}
+use mathlib.Core.List.{[], _∷_}
 use mathlib.Core.Path.{_≡_, refl, sym, ap, ap₂, _∙_}
 use types.Run.{OneOf, miss}
 use denote.Enum.Declared.{tagOf}

@@ -1,12 +1,12 @@
 -- `follow::Text::event` meets its contract: the first bytes of a line tell its event. Assumes nothing.
-use Prim.Native.Nat.{ℕ, _-_, _≤_}
-use mathlib.Core.List.{List, _++_}
+use Prim.Native.Nat.{ℕ, _-_}
+use mathlib.Core.List.{_++_}
 use mathlib.Core.Path.{_≡_, sym, ap, subst, _∙_}
 use native.Mathlib.Omega.{arith}
 use borrow.Author.Tests.{leb-true}
-use lib.ListN.{take, length}
+use lib.ListN.{take}
 use Rattle.capture.specs.Capture.{eventOf}
-use Rattle.follow.specs.Follow.{textLength, heldIn, joinedText}
+use Rattle.follow.specs.Follow.{heldIn}
 use Rattle.follow.specs.declared.Text.{Text}
 use Rattle.follow.proofs.Laws.{Sound, joined-sound, tells-event}
 use borrow.Author.Needs.{needs}

@@ -1,5 +1,4 @@
 -- `telling::Run::is_valid` meets its contract. Assumes nothing.
-use mathlib.Core.Path.{refl}
 use Rattle.telling.specs.Telling.{validRun}
 use borrow.Author.Needs.{needs}
 use Rattle.telling.proofs.Run.is_valid.Statement.{statement}

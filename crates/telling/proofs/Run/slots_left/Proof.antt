@@ -1,5 +1,4 @@
 -- `telling::Run::slots_left` meets its contract: each branch is a test of `slotsLeft`. Assumes nothing.
-use native.Mathlib.Omega.{arith}
 use borrow.Author.Tests.{le-leb, lt-leb, lt-ltb, le-ltb}
 use Rattle.telling.specs.Telling.{lastSlot, slotsLeft}
 use borrow.Author.Needs.{needs}

@@ -1,5 +1,4 @@
 -- `telling::Run::start` meets its contract: the parts are those of the port's start. Assumes nothing.
-use mathlib.Core.Path.{refl}
 use Rattle.telling.specs.Telling.{startWith}
 use borrow.Author.Needs.{needs}
 use Rattle.telling.proofs.Run.start.Statement.{statement}
