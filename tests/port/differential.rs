@@ -103,7 +103,7 @@ fn compare_session(program: &str, letter: u8, input: &[u8], random: &mut Random,
         .map_err(|(place, what)| format!("after byte {}, {what}", before.partition_point(|&sent| sent <= place) - 1))
 }
 
-/// Captures and what is printed for them, by hand.
+/// Captures and what is printed for them, by the words of the request.
 const EXAMPLES: [(&[u8], &[u8]); 12] = [
     (b"S 4", b"3c 0a 0d --\nslots 4\n"),
     (b"S 004\n", b"3c 0a 0d --\nslots 4\n"),

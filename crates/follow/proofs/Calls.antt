@@ -56,13 +56,14 @@ over-comes : (r : Run) → Comes r (record { text = []; run = r }) []
 unfolding afterAll slotsRun
 over-comes r = record { state = refl; number = omega arith }
 
+-- a choice between two events' ends and their calls
+pub both : (P : Telling → List Call → Type 0) (b : Bool) {t u : Telling} {cs ds : List Call} → P t cs → P u ds → P (cond b t u) (cond b cs ds)
+both P true p q = p
+both P false p q = q
+
 event-comes : (r : Run) (e : Event) → Comes r (tellOf r e) (callsOf r e)
 unfolding tellOf callsOf
-event-comes r e = both (isOver r) _ _ _ _ (over-comes r) (by-event r e)
-  where
-    both : (b : Bool) (t u : Telling) (cs ds : List Call) → Comes r t cs → Comes r u ds → Comes r (cond b t u) (cond b cs ds)
-    both true t u cs ds p q = p
-    both false t u cs ds p q = q
+event-comes r e = both (Comes r) (isOver r) (over-comes r) (by-event r e)
 
 pub event-state : (r : Run) (e : Event) → heldBy (tellOf r e .run) ≡ afterAll (heldBy r) (callsOf r e)
 event-state r e = event-comes r e .state

@@ -2,54 +2,44 @@
 use Prim.Native.Nat.{ℕ, _+_, _≤_, _<_}
 use mathlib.Core.Bool.{true, false}
 use mathlib.Core.List.{List}
-use mathlib.Core.Logic.{_⊎_, inl, inr, ⊎-elim}
-use mathlib.Core.Path.{_≡_, refl, sym, ap, _∙_}
+use mathlib.Core.Path.{_≡_, refl, sym, ap, ap₂, _∙_}
 use native.Mathlib.Omega.{arith}
-use borrow.Author.Tests.{eqb-true, eqb-false, le-leb, lt-leb, leb-true, leb-false}
+use borrow.Author.Tests.{eqb-true, eqb-false, leb-true, leb-false}
 use lib.Dec.{leb, eqb}
 use lib.ListN.{length, take}
 use Rattle.laws.specs.Over.{over}
-use Rattle.laws.proofs.OverLaws.{over-short}
-use Rattle.laws.proofs.Tests.{told, never, and-left, cond-yes}
-use Rattle.refusal.specs.Answer.{unless}
+use Rattle.laws.proofs.Tests.{told, never, and-left}
 use Rattle.refusal.specs.declared.Refusal.the-variants as refusal
-use Rattle.frame.specs.Message.{roomFor}
+use Rattle.frame.specs.declared.Wrote.{Wrote}
 use Rattle.frame.specs.declared.Wrote.the-variants.{Count, Refused}
 use Rattle.capture.specs.Words.{before}
 use Rattle.capture.specs.Capture.{eventOf}
 use Rattle.capture.specs.declared.Event.{Event}
 use Rattle.capture.proofs.Words.{before-low}
-use Rattle.telling.specs.Printed.{LF, printedIn}
+use Rattle.telling.specs.Printed.{LF}
 use Rattle.telling.specs.Telling.{validRun, Telling, tellOf, toldOf, toldLeaves}
 use Rattle.telling.specs.declared.Run.{Run}
 use Rattle.telling.specs.declared.Told.{Told}
+use Rattle.telling.proofs.Promises.{each-call}
 use Rattle.follow.specs.Follow.{blankText, validText, heldIn, validFollower, followedBy, refusedState, holds, lineIn, takeOf, takeLeaves, closeOf, closeLeaves}
 use Rattle.follow.specs.declared.Follower.{Follower}
 use Rattle.follow.specs.declared.Followed.{Followed}
 use Rattle.follow.proofs.Laws.{take-16, take-holds, take-line, close-16, close-none, close-line}
 
--- ---- a text, and a line that is told
-
--- it fits, or it does not
-pub printed-cases : (text out : List ℕ) →
-    ((length text ≤ length out) × (printedIn text out ≡ Count (length text))) ⊎ ((length out < length text) × (printedIn text out ≡ Refused (refusal.Room (length text))))
-unfolding roomFor unless
-printed-cases text out =
-    told (leb (length text) (length out))
-    (λ e. inl (leb-true _ _ e, rw e))
-    (λ e. inr (leb-false _ _ e, rw e))
+-- ---- a line that is told
 
 module _ (r : Run) (e : Event) (out : List ℕ) (v : validRun r ≡ true) where
   abbrev t : Telling
   t = tellOf r e
 
-  pub told-whole : length (t .text) ≤ length out → (toldOf r e out ≡ record { wrote = Count (length (t .text)); run = t .run }) × (toldLeaves r e out ≡ over out 0 (t .text))
-  unfolding toldOf toldLeaves roomFor unless
-  told-whole h = (cond-yes _ _ v ∙ rw (le-leb _ _ h), cond-yes _ _ v)
+  told-whole : length (t .text) ≤ length out → (toldOf r e out ≡ record { wrote = Count (length (t .text)); run = t .run }) × (toldLeaves r e out ≡ over out 0 (t .text))
+  told-whole h = each-call .tell-done r e out v h
 
-  pub told-short : length out < length (t .text) → (toldOf r e out ≡ record { wrote = Refused (refusal.Room (length (t .text))); run = r }) × (toldLeaves r e out ≡ out)
-  unfolding toldOf toldLeaves roomFor unless
-  told-short h = (cond-yes _ _ v ∙ rw (lt-leb _ _ h), cond-yes _ _ v ∙ over-short out (t .text) 0 (omega arith))
+  told-short : length out < length (t .text) → (toldOf r e out ≡ record { wrote = Refused (refusal.Room (length (t .text))); run = r }) × (toldLeaves r e out ≡ out)
+  told-short h =
+      let w = each-call .tell-2 r e out (length (t .text)) .1 (v, h, refl) in
+      let same = each-call .tell-same r e out _ w in
+      (ap₂ (λ (x : Wrote) (q : Run). record { wrote = x; run = q }) w (same .0), same .1)
 
 -- ---- take
 
@@ -99,14 +89,13 @@ module _ (f : Follower) (piece out : List ℕ) where
       let n : before LF piece ≡ length piece → ⊥ = eqb-false _ _ e in
       let low : before LF piece < length piece = omega (arith, before-low LF piece, n) in
       let l = line-is v low in
-      ⊎-elim
+      told (leb (length (ending .text)) (length out))
       (λ h.
-      let t = told-whole (f .run) event out run (h .0) in
-      whole v low (h .0) (l .0 ∙ ap (λ (x : Told). followedBy f x (before LF piece + 1)) (t .0)) (l .1 ∙ t .1))
+      let t = told-whole (f .run) event out run (leb-true _ _ h) in
+      whole v low (leb-true _ _ h) (l .0 ∙ ap (λ (x : Told). followedBy f x (before LF piece + 1)) (t .0)) (l .1 ∙ t .1))
       (λ h.
-      let t = told-short (f .run) event out run (h .0) in
-      short v low (h .0) (l .0 ∙ ap (λ (x : Told). followedBy f x (before LF piece + 1)) (t .0)) (l .1 ∙ t .1))
-      (printed-cases (ending .text) out)))
+      let t = told-short (f .run) event out run (leb-false _ _ h) in
+      short v low (leb-false _ _ h) (l .0 ∙ ap (λ (x : Told). followedBy f x (before LF piece + 1)) (t .0)) (l .1 ∙ t .1))))
       (λ v.
       let g = take-16 f piece out v in
       invalid v (sym (g .answers)) (sym (g .leaves)))
@@ -138,14 +127,13 @@ module _ (f : Follower) (out : List ℕ) where
       (λ e.
       let n : f .text .len ≡ 0 → ⊥ = eqb-false _ _ e in
       let g = close-line f out v n refl (record { answers = refl; leaves = refl }) in
-      ⊎-elim
+      told (leb (length (unended .text)) (length out))
       (λ h.
-      let t = told-whole (f .run) (eventOf (heldIn (f .text))) out run (h .0) in
-      whole v n (h .0) (sym (g .answers) ∙ ap (λ (x : Told). followedBy f x 0) (t .0)) (sym (g .leaves) ∙ t .1))
+      let t = told-whole (f .run) (eventOf (heldIn (f .text))) out run (leb-true _ _ h) in
+      whole v n (leb-true _ _ h) (sym (g .answers) ∙ ap (λ (x : Told). followedBy f x 0) (t .0)) (sym (g .leaves) ∙ t .1))
       (λ h.
-      let t = told-short (f .run) (eventOf (heldIn (f .text))) out run (h .0) in
-      short v n (h .0) (sym (g .answers) ∙ ap (λ (x : Told). followedBy f x 0) (t .0)) (sym (g .leaves) ∙ t .1))
-      (printed-cases (unended .text) out)))
+      let t = told-short (f .run) (eventOf (heldIn (f .text))) out run (leb-false _ _ h) in
+      short v n (leb-false _ _ h) (sym (g .answers) ∙ ap (λ (x : Told). followedBy f x 0) (t .0)) (sym (g .leaves) ∙ t .1))))
       (λ v.
       let g = close-16 f out v in
       invalid v (sym (g .answers)) (sym (g .leaves)))

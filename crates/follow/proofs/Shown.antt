@@ -1,6 +1,5 @@
 -- The bytes that a printed text shows are those that the calls send: line by line, two hex digits read back. Assumes nothing.
 use Prim.Native.Nat.{ℕ, zero, suc, _+_, _-_, _*_, _/_, _%_, _^_, _≤_, _<_}
-use mathlib.Core.Bool.{Bool, true, false, cond}
 use mathlib.Core.List.{List, [], _∷_, _++_, append-assoc, append-nil}
 use mathlib.Core.Path.{_≡_, refl, sym, ap, ap₂, subst, _∙_}
 use native.Mathlib.Nat.{div-add-mod'}
@@ -32,7 +31,7 @@ use Rattle.telling.specs.declared.Run.{Run}
 use Rattle.follow.specs.Replay.{lines, tellAll, replayWith}
 use Rattle.follow.specs.Calls.{heldBy, callsBy, callsOf, callsIn, digitShown, shownBy, shownIn, shownLine, shown}
 use Rattle.follow.specs.Promises.{Unbroken}
-use Rattle.follow.proofs.Calls.{event-state}
+use Rattle.follow.proofs.Calls.{both, event-state}
 use Rattle.follow.proofs.Lines.{unbroken-cons, unbroken-append, ended}
 
 -- ---- a hex digit
@@ -231,12 +230,7 @@ shows-event r Other = shows-refused Form
 
 shows-told : (r : Run) (e : Event) → Shows (tellOf r e .text) (bytesAll (heldBy r) (callsOf r e))
 unfolding tellOf callsOf bytesAll
-shows-told r e = both (isOver r) _ _ _ _ shows-none (shows-event r e)
-  where
-    both : (b : Bool) (t u : Telling) (cs ds : List Call) → Shows (t .text) (bytesAll (heldBy r) cs) → Shows (u .text) (bytesAll (heldBy r) ds) →
-        Shows (cond b t u .text) (bytesAll (heldBy r) (cond b cs ds))
-    both true t u cs ds p q = p
-    both false t u cs ds p q = q
+shows-told r e = both (λ (t : Telling) (cs : List Call). Shows (t .text) (bytesAll (heldBy r) cs)) (isOver r) shows-none (shows-event r e)
 
 shows-all : (r : Run) (ls : List (List ℕ)) → Shows (tellAll r ls .text) (bytesAll (heldBy r) (callsIn r ls))
 unfolding tellAll callsIn bytesAll

@@ -1,7 +1,6 @@
 -- However the pieces fall, the calls print what the lines of the whole text tell: the follower has the line that has not ended yet. Assumes nothing.
 use Prim.Native.Nat.{ℕ, _+_, _≤_, _<_}
 use mathlib.Core.List.{List, [], _∷_, _++_, append-assoc, append-nil}
-use mathlib.Core.Logic.{_⊎_, ⊎-elim}
 use mathlib.Core.Path.{_≡_, refl, sym, ap, ap₂, subst, _∙_}
 use native.Mathlib.Numerals.{add-one}
 use native.Mathlib.Omega.{arith}
@@ -11,16 +10,16 @@ use lib.ListN.{length, take}
 use lib.Seq.{take-all, take-at, take-append-le, length-take-le}
 use Rattle.laws.specs.Over.{over}
 use Rattle.laws.proofs.OverLaws.{take-over}
-use Rattle.laws.proofs.Tests.{told, never, cond-yes, cond-no}
-use Rattle.refusal.specs.declared.Refusal.the-variants.{State}
-use Rattle.frame.specs.declared.Wrote.the-variants.{Count, Refused}
+use Rattle.laws.proofs.Tests.{told, never}
+use Rattle.frame.specs.declared.Wrote.the-variants.{Count}
 use Rattle.capture.specs.Words.{before}
 use Rattle.capture.specs.Capture.{eventOf}
 use Rattle.capture.specs.declared.Event.{Event}
 use Rattle.capture.proofs.Long.{first-136}
-use Rattle.telling.specs.Printed.{LF, slotsLine, printedIn}
+use Rattle.telling.specs.Printed.{LF, slotsLine}
 use Rattle.telling.specs.Telling.{startWith, validRun, Telling, tellOf, countOf, countLeaves}
 use Rattle.telling.specs.declared.Run.{Run}
+use Rattle.telling.proofs.Promises.{each-call}
 use Rattle.follow.specs.Replay.{lines, tellAll, replayWith}
 use Rattle.follow.specs.Follow.{textLength, blankText, heldIn, joinedText, holds, lineIn, takeOf, takeLeaves, closeOf, closeLeaves}
 use Rattle.follow.specs.Calls.{Fed, no-more, next, Replays}
@@ -29,7 +28,7 @@ use Rattle.follow.specs.declared.Follower.{Follower}
 use Rattle.follow.specs.declared.Followed.{Followed}
 use Rattle.follow.proofs.Laws.{Sound, held-long, held-joined, joined-sound}
 use Rattle.follow.proofs.Lines.{unbroken-append, unbroken-first, with-lf, ended, last}
-use Rattle.follow.proofs.Each.{printed-cases, toldTo, ending, Took, invalid, held, whole, short, took, unended, Closed, no-line, closed}
+use Rattle.follow.proofs.Each.{toldTo, ending, Took, invalid, held, whole, short, took, unended, Closed, no-line, closed}
 
 -- ---- the line that has not ended
 
@@ -203,19 +202,18 @@ close-tells w f out n h c (short v some room e l) = never (cc)
 
 -- the last line
 count-tells : (r : Run) (out : List ℕ) (n : ℕ) → countOf r out ≡ Count n → take n (countLeaves r out) ≡ slotsLine (r .slots)
-unfolding countOf countLeaves
 count-tells r out n c =
+    let line = slotsLine (r .slots) in
     told (validRun r)
     (λ v.
-    let w : printedIn (slotsLine (r .slots)) out ≡ Count n = sym (cond-yes _ _ v) ∙ c in
-    let l = cond-yes (over out 0 (slotsLine (r .slots))) out v in
-    ⊎-elim
-    (λ h.
-    let z : n ≡ length (slotsLine (r .slots)) = cc in
-    ap₂ take z l ∙ take-over out (slotsLine (r .slots)) (length (slotsLine (r .slots))) refl (h .0))
-    (λ h. never (cc))
-    (printed-cases (slotsLine (r .slots)) out))
-    (λ v. never (let w : Refused State ≡ Count n = sym (cond-no _ _ v) ∙ c in cc))
+    told (leb (length line) (length out))
+    (λ y.
+    let room = leb-true _ _ y in
+    let d = each-call .count-done r out v room in
+    let z : n ≡ length line = cc in
+    ap₂ take z (d .1) ∙ take-over out line (length line) refl room)
+    (λ y. let w = each-call .count-2 r out (length line) .1 (v, leb-false _ _ y, refl) in never (cc)))
+    (λ v. let w = each-call .count-16 r out .1 v in never (cc))
 
 -- ---- the whole
 

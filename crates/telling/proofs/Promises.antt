@@ -31,7 +31,7 @@ module _ (r : Run) (out : List ℕ) (v : validRun r ≡ true) where
   unfolding countOf countLeaves roomFor unless
   count-done h = (cond-yes _ _ v ∙ rw (le-leb _ _ h), cond-yes _ _ v)
 
-each-call : EachCall
+pub each-call : EachCall
 unfolding toldLeaves countOf countLeaves
 each-call = record {
   start-done = start-done;
