@@ -25,7 +25,7 @@
 #include <stdint.h>
 #include <string.h>
 
-#define HOURHERON_VERSION "0.4.0"
+#define HOURHERON_VERSION "0.5.0"
 
 /* ---- lengths in bytes */
 

@@ -2,12 +2,13 @@
 -- Assumes nothing.
 use Prim.Native.Nat.{ℕ, zero, suc, _+_, _-_, _*_, _/_, _%_, _^_, _≤_, _<_}
 use mathlib.Core.Path.{_≡_, refl, sym, ap, ap₂, _∙_}
-use mathlib.Core.List.{List, [], _∷_}
+use mathlib.Core.List.{List, [], _∷_, _++_}
 use mathlib.Core.Bool.{true, _&&_}
-use native.Mathlib.Nat.{mod-eq-of-lt, mod-lt, pow-succ', pow-zero, mul-assoc, one-le-pow, mul-add-div-right, mul-add-mod-self-right, add-sub-cancel-left, le-trans, pow-le-pow-right, pow-le-pow-left}
+use native.Mathlib.Nat.{mod-eq-of-lt, mod-lt, pow-succ', pow-zero, div-one, div-add-mod', div-div-eq-div-mul, zero-add, suc-add, mul-comm, mul-assoc, one-le-pow, mul-add-div-right, mul-add-mod-self-right, add-sub-cancel-left, le-trans, pow-le-pow-right, pow-le-pow-left}
 use native.Mathlib.Omega.{arith}
 use borrow.Author.Tests.{ltb-true, leb-true, lt-ltb, le-leb, lt-leb, le-ltb}
 use lib.Arith.{mod-mul, digits-lt, digits-div, lt-one}
+use lib.Pow.{pow-add}
 use lib.ListN.{length}
 use lib.Dec.{ltb, leb}
 use Rattle.laws.proofs.Tests.{and-left, and-right, told, never}
@@ -50,6 +51,23 @@ module _ (b off : ℕ) (some : 0 < b) where
       let e : k * b ^ suc w ≡ (k * b) * b ^ w = rw (pow-succ' b w) (sym (mul-assoc k b (b ^ w))) in
       rw e
       (rw (mul-add-div-right (one-le-pow w b some) (k * b) n, mul-add-mod-self-right k b (n / b ^ w), digits-above w (k * b) n))
+
+  -- so they are those of what is left below b ^ w
+  pub digits-below : (w n : ℕ) → digits b off w (n % b ^ w) ≡ digits b off w n
+  digits-below w n = sym (digits-above w (n / b ^ w) (n % b ^ w)) ∙ ap (digits b off w) (div-add-mod' n (b ^ w))
+
+  -- the digits above the w lowest, and those
+  pub digits-split : (k w n : ℕ) → digits b off (k + w) n ≡ digits b off k (n / b ^ w) ++ digits b off w n
+  unfolding digits
+  digits-split zero w n = rw (zero-add w)
+  digits-split (suc k) w n = rw (suc-add k w)
+      (ap₂ _∷_ (rw (pow-add b k w, mul-comm (b ^ k) (b ^ w), div-div-eq-div-mul n (b ^ w) (b ^ k))) (digits-split k w n))
+
+  -- the lowest digit, behind those of the rest
+  pub digits-last : (w n : ℕ) → digits b off (suc w) n ≡ digits b off w (n / b) ++ ((off + n % b) ∷ [])
+  unfolding digits
+  digits-last zero n = rw (pow-zero, div-one)
+  digits-last (suc w) n = ap₂ _∷_ (rw (pow-succ' b w, div-div-eq-div-mul n b (b ^ w))) (digits-last w n)
 
   digit-low : (d : ℕ) → isDigit b off d ≡ true → d - off < b
   digit-low d h = ltb-true (d - off) b (and-right (leb off d) (ltb (d - off) b) h)

@@ -1,12 +1,12 @@
--- The laws of `over`: its length, how writes one behind the other compose, and which stores come to one. Assumes nothing.
-use Prim.Native.Nat.{ℕ, _+_, _≤_, _<_}
+-- The laws of `over`: its length, how writes one behind the other and one over another compose, and which stores come to one. Assumes nothing.
+use Prim.Native.Nat.{ℕ, _+_, _-_, _≤_, _<_}
 use mathlib.Core.List.{List, _++_, append-assoc}
-use mathlib.Core.Path.{_≡_, sym, ap, _∙_}
+use mathlib.Core.Path.{_≡_, refl, sym, ap, _∙_}
 use native.Mathlib.Omega.{arith}
 use borrow.Author.Tests.{le-leb, lt-leb, leb-true, leb-false}
 use lib.Dec.{leb}
 use lib.ListN.{length, take, drop, length-append, length-take, length-drop}
-use lib.Seq.{take-at, drop-append-add, drop-drop, length-take-le, sets, sets-eq, paste, take-length}
+use lib.Seq.{take-at, drop-at, take-take, take-append-le, drop-append-add, drop-drop, length-take-le, sets, sets-eq, paste, take-length}
 use Rattle.laws.specs.Over.{over}
 use Rattle.laws.proofs.Tests.{told}
 
@@ -65,6 +65,35 @@ over-next d s t a b e h =
 -- the same, of what two calls left: what a run of writers is made of
 pub onto : (d : List ℕ) {e f : List ℕ} (s t : List ℕ) (a b : ℕ) → e ≡ over d a s → f ≡ over e b t → a + length s ≡ b → b + length t ≤ length d → f ≡ over d a (s ++ t)
 onto d s t a b p q l h = q ∙ ap (λ (x : List ℕ). over x b t) p ∙ over-next d s t a b l h
+
+-- a write that ends where the first one begins: both are one write, too
+pub over-before : (d s t : List ℕ) (a b : ℕ) → a + length s ≡ b → b + length t ≤ length d → over (over d b t) a s ≡ over d a (s ++ t)
+over-before d s t a b e h =
+    let p = over-fits d t b h in
+    let l : length (take b d) ≡ b = length-take-le b d (omega arith) in
+    let st : a + length (s ++ t) ≡ b + length t = simp length-append (omega arith) in
+    let f : take a (over d b t) ≡ take a d = ap (take a) p ∙ take-append-le a (take b d) (t ++ drop (b + length t) d) (omega arith) ∙ take-take a b d (omega arith) in
+    let g : drop b (over d b t) ≡ t ++ drop (b + length t) d = ap (drop b) p ∙ drop-at (take b d) (t ++ drop (b + length t) d) b l in
+    over-fits (over d b t) s a (rw (length-over d t b, e) (omega arith))
+    ∙ rw (e, f, g, over-fits d (s ++ t) a (rw st h), st) (rw append-assoc)
+
+-- a write over one that is no longer, from the same place on: the second alone
+over-again : (d s t : List ℕ) (a : ℕ) → length s ≤ length t → a + length t ≤ length d → over (over d a s) a t ≡ over d a t
+over-again d s t a k h =
+    let p = over-fits d s a (omega arith) in
+    let n : a + length t ≡ a + length s + (length t - length s) = omega arith in
+    let f : take a (over d a s) ≡ take a d = ap (take a) p ∙ take-at (take a d) (s ++ drop (a + length s) d) a (length-take-le a d (omega arith)) in
+    let g : drop (a + length t) (over d a s) ≡ drop (a + length t) d
+    = ap (drop (a + length t)) p ∙ rw n (behind d s a (a + length s) (length t - length s) refl (omega arith)) in
+    over-fits (over d a s) t a (rw (length-over d s a) h) ∙ rw (f, g) (sym (over-fits d t a h))
+
+-- a write over the end u of another, and no shorter than u: of what two calls left, t stands in the place of u
+pub onto-end : (d : List ℕ) {e f : List ℕ} (s u t : List ℕ) (a b : ℕ) → e ≡ over d a (s ++ u) → f ≡ over e b t →
+    a + length s ≡ b → length u ≤ length t → b + length t ≤ length d → f ≡ over d a (s ++ t)
+onto-end d s u t a b p q l k h =
+    onto d s t a b refl
+    (q ∙ ap (λ (x : List ℕ). over x b t) (p ∙ sym (over-next d s u a b l (omega arith))) ∙ over-again (over d a s) u t b k (rw (length-over d s a) h))
+    l h
 
 -- a run of writes from a to n, each on from where the one before ended: s in all, and the last left l
 pub data Run (l : List ℕ) : List ℕ → ℕ → ℕ → List ℕ → Type 0 where

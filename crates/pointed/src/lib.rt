@@ -2,7 +2,7 @@
 use digits::Field;
 ghost use Rattle.pointed.specs.Contracts.{PutPointed, ReadPointed};
 
-// Writes the whole part as width digits, the point, and the tenths.
+// Writes the whole part as width digits, the point, and the tenths: all digits first, then the point before the last of them.
 pub fn put_pointed(out: &mut [u8], at: usize, width: usize, n: u32)
     ensures { λ _. ⌜ PutPointed (now (out .entry)) at width n (now (out .exit)) ⌝ }
 {
@@ -12,8 +12,9 @@ pub fn put_pointed(out: &mut [u8], at: usize, width: usize, n: u32)
     if !lent::has_room(out.len() - 2, at, width) {
         return;
     }
-    digits::put_decimal(out, at, width, n / 10);
-    codec::put_tagged(out, at + width, b'.', 1, n % 10);
+    digits::put_decimal(out, at, width + 1, n);
+    let tenth = out[at + width];
+    lent::put_pair(out, at + width, b'.', tenth);
 }
 
 // Reads the whole of s as a number in tenths that is at most top.
@@ -25,7 +26,7 @@ pub fn read_pointed(s: &[u8], top: u16) -> Field
     }
     let whole_width = s.len() - 2;
     let most = top as u32;
-    let Field::Value(whole) = digits::read_decimal(&s[..whole_width], most / 10) else {
+    let Field::Value(whole) = digits::read_decimal(&s[..whole_width], most) else {
         return Field::Wrong;
     };
     let Field::Value(tenth) = codec::read_tagged(&s[whole_width..], b'.', 9) else {

@@ -3,14 +3,17 @@
 use digits::Field;
 ghost use Rattle.stop.specs.Contracts.{StopOk, PutStopText, ReadStopText, PutStopPair, ReadStop, ReadTenth};
 
-// Whether a stop may be sent: 0..99, or a multiple of 10 in 100..250.
+// Whether a stop may be sent: 0..99, or a multiple of 10 in 100..250. Below 251, 205 / 2048 serves for a tenth.
 pub fn stop_ok(stop: u32) -> bool
     ensures { λ r. ⌜ StopOk stop r ⌝ }
 {
-    (stop < 100) | ((stop % 10 == 0) & (stop <= 250))
+    if 250 < stop {
+        return false;
+    }
+    (stop < 100) | (stop * 205 / 2048 * 10 == stop)
 }
 
-// Writes the three characters of a stop.
+// Writes the three characters of a stop; from 100 on the point stands in the place of the third digit.
 pub fn put_stop_text(out: &mut [u8], at: usize, stop: u32)
     ensures { λ _. ⌜ PutStopText (now (out .entry)) at stop (now (out .exit)) ⌝ }
 {
@@ -21,7 +24,7 @@ pub fn put_stop_text(out: &mut [u8], at: usize, stop: u32)
     if !lent::has_room(out.len(), at, 3) {
         return;
     }
-    digits::put_decimal(out, at, 2, stop / 10);
+    digits::put_decimal(out, at, 3, stop);
     lent::put_byte(out, at + 2, b'.');
 }
 

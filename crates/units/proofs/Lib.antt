@@ -1,4 +1,5 @@
 pub mod Nearest
+pub mod Reciprocal
 pub mod Ranges
 pub mod Degrees
 pub mod Table

@@ -59,6 +59,15 @@ fn most_in(u: u8) -> u32
 
 // ---- the conversion
 
+// 2^38. A sum of the conversion times one of the two below, over this, is exactly the sum divided by 100 or 254.
+const SCALE: u64 = 274877906944;
+
+// 2^38 / 100, rounded up.
+const RECIPROCAL_100: u64 = 2748779070;
+
+// 2^38 / 254, rounded up.
+const RECIPROCAL_254: u64 = 1082196485;
+
 // A size of one unit in the other: the nearest whole number, halves up.
 fn size_in(unit: u8, wanted: u8, n: u32) -> u32
     requires { ⌜ n ≤ topDistance ⌝ }
@@ -68,9 +77,11 @@ fn size_in(unit: u8, wanted: u8, n: u32) -> u32
         return n;
     }
     if unit == b'I' {
-        return (254 * n + 50) / 100;
+        let sum = (254 * n + 50) as u64;
+        return (sum * RECIPROCAL_100 / SCALE) as u32;
     }
-    (100 * n + 127) / 254
+    let sum = (100 * n + 127) as u64;
+    (sum * RECIPROCAL_254 / SCALE) as u32
 }
 
 // The pupil of one unit in the other: halves away from zero.

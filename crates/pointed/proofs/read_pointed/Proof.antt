@@ -1,14 +1,16 @@
--- `pointed::read_pointed` meets its contract: the two parts as they were read are those that `readPointed` joins. Assumes nothing.
-use Prim.Native.Nat.{ℕ, _-_, _/_, _≤_}
+-- `pointed::read_pointed` meets its contract: its two parts join as those of `readPointed`, for a whole part past top / 10 is wrong with any tenth. Assumes nothing.
+use Prim.Native.Nat.{ℕ, _+_, _-_, _*_, _/_, _≤_, _<_}
+use mathlib.Core.Bool.{Bool, true, false, _&&_, cond}
 use mathlib.Core.List.{List}
 use mathlib.Core.Path.{_≡_, refl, sym, _∙_}
 use native.Mathlib.Omega.{arith}
 use borrow.Author.Needs.{needs}
-use borrow.Author.Tests.{le-leb, lt-leb, lt-ltb, le-ltb}
+use borrow.Author.Tests.{leb-true, leb-false, le-leb, lt-leb, lt-ltb, le-ltb}
+use lib.Dec.{leb}
 use lib.ListN.{length, take, drop, length-drop}
 use lib.Seq.{take-all, length-take-le}
 use Rattle.laws.proofs.Tests.{yes, no, cond-yes, cond-no, told, never}
-use Rattle.digits.specs.Digits.{readDecimal}
+use Rattle.digits.specs.Digits.{value, areDigits, only, readDigits, readField, readDecimal, widest}
 use Rattle.digits.specs.declared.Field.{Field}
 use Rattle.digits.specs.declared.Field.the-variants.{Value, Wrong}
 use Rattle.digits.proofs.Laws.{digits-read}
@@ -28,9 +30,31 @@ tagged-low t top n s e =
     (λ y. decimal-low top n (drop 1 s) (sym (cond-yes _ Wrong y) ∙ e))
     (λ no. let z : Wrong ≡ Value n = sym (cond-no _ Wrong no) ∙ e in never (cc))
 
+-- a whole part past top / 10 is wrong with any tenth
+past : (top v : ℕ) (t : Bool) (g : Field) → top / 10 < v → joined top (only t v) g ≡ Wrong
+unfolding joined
+past top v true (Value b) h = cond-no _ _ (lt-leb (v * 10 + b) top (omega arith))
+past top v true Wrong h = refl
+past top v false g h = refl
+
+-- so what is read up to top joins as what is read up to top / 10
+to-top : (top v : ℕ) (short all : Bool) (g : Field) →
+    joined top (cond short (only (all && leb v top) v) Wrong) g ≡ joined top (cond short (only (all && leb v (top / 10)) v) Wrong) g
+unfolding joined
+to-top top v true true g =
+    told (leb v (top / 10))
+    (λ y. rw (y, le-leb v top (omega (arith, leb-true v (top / 10) y))))
+    (λ n. rw n (past top v (leb v top) g (leb-false _ _ n)))
+to-top top v true false g = refl
+to-top top v false all g = refl
+
+whole-to-top : (top : ℕ) (s : List ℕ) (g : Field) → joined top (readDecimal top s) g ≡ joined top (readDecimal (top / 10) s) g
+unfolding readField readDigits
+whole-to-top top s g = to-top top (value 10 48 s) (leb (length s) widest) (areDigits 10 48 s) g
+
 module _ (top : ℕ) (s : List ℕ) where
   abbrev whole : Field
-  whole = readDecimal (top / 10) (take (length s - 2) s)
+  whole = readDecimal top (take (length s - 2) s)
 
   -- the last two bytes
   abbrev rest : List ℕ
@@ -41,7 +65,7 @@ module _ (top : ℕ) (s : List ℕ) where
   unfolding readPointed
   joins h e f =
       let all : rest ≡ drop (length s - 2) s = take-all (length s - (length s - 2)) (drop (length s - 2) s) (simp length-drop (omega arith)) in
-      no _ (le-ltb _ _ h) (rw (← e, ← f, all))
+      no _ (le-ltb _ _ h) (rw (← e, ← f, all) (whole-to-top top (take (length s - 2) s) _))
 
 returns : tie.Need-returns
 unfolding readPointed
@@ -99,7 +123,7 @@ gave-whole c = sym (c .before .before .read-decimal .ensures) ∙ c .whole .give
 gave-tenth : (c : tie.After-tenth) → readTagged point (readDecimal 9) (rest (start (first c) .args .top) (start (first c) .args .s .now)) ≡ Value (c .tenth .given .0 .0)
 gave-tenth c = sym (c .before .before .read-tagged .ensures) ∙ c .tenth .given .1
 
-low : (c : tie.After-tenth) → (first c .whole .given .0 .0 ≤ start (first c) .args .top / 10) × (c .tenth .given .0 .0 ≤ 9)
+low : (c : tie.After-tenth) → (first c .whole .given .0 .0 ≤ start (first c) .args .top) × (c .tenth .given .0 .0 ≤ 9)
 low c = (decimal-low _ _ _ (gave-whole (first c)), tagged-low _ _ _ _ (gave-tenth c))
 
 gave-both : (c : tie.After-tenth) →

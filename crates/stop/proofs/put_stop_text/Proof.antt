@@ -1,5 +1,5 @@
--- `stop::put_stop_text` meets its contract: below 100 a number with a point; else two digits, and the point on from where they ended. Assumes nothing.
-use Prim.Native.Nat.{ℕ, _+_, _/_, _≤_, _<_}
+-- `stop::put_stop_text` meets its contract: below 100 a number with a point; else three digits, and the point in the place of the third. Assumes nothing.
+use Prim.Native.Nat.{ℕ, _+_, _/_, _%_, _≤_, _<_}
 use mathlib.Core.List.{List, [], _∷_}
 use mathlib.Core.Path.{_≡_, sym, ap, _∙_}
 use native.Mathlib.Omega.{arith}
@@ -7,9 +7,9 @@ use borrow.Author.Needs.{needs}
 use borrow.Author.Tests.{leb-true, leb-false, not-true, not-false}
 use lib.ListN.{length}
 use Rattle.laws.specs.Over.{over}
-use Rattle.laws.proofs.OverLaws.{over-short, onto}
+use Rattle.laws.proofs.OverLaws.{over-short, onto-end}
 use Rattle.digits.specs.Digits.{decimal}
-use Rattle.digits.proofs.Laws.{length-digits}
+use Rattle.digits.proofs.Laws.{length-digits, digits-last}
 use Rattle.pointed.specs.Pointed.{point}
 use Rattle.stop.specs.Stop.{stopText}
 use Rattle.stop.proofs.Exact.{low-text, high-text, stop-long}
@@ -20,10 +20,13 @@ module _ (d : List ℕ) (at s : ℕ) where
   short : length d < at + 3 → d ≡ over d at (stopText s)
   short h = sym (over-short d (stopText s) at (rw (stop-long s) h))
 
-  digits-point : {l1 l2 : List ℕ} → 100 ≤ s → at + 3 ≤ length d → l1 ≡ over d at (decimal 2 (s / 10)) → l2 ≡ over l1 (at + 2) (point ∷ []) → l2 ≡ over d at (stopText s)
+  digits-point : {l1 l2 : List ℕ} → 100 ≤ s → at + 3 ≤ length d → l1 ≡ over d at (decimal 3 s) →
+      l2 ≡ over l1 (at + 2) (point ∷ []) → l2 ≡ over d at (stopText s)
   digits-point k h p q =
       let l = length-digits 10 48 (omega arith) 2 (s / 10) in
-      onto d (decimal 2 (s / 10)) (point ∷ []) at (at + 2) p q (omega arith) (omega arith) ∙ ap (over d at) (sym (high-text s k))
+      onto-end d (decimal 2 (s / 10)) ((48 + s % 10) ∷ []) (point ∷ []) at (at + 2) (p ∙ ap (over d at) (digits-last 10 48 (omega arith) 2 s)) q
+      (omega arith) (omega arith) (omega arith)
+      ∙ ap (over d at) (sym (high-text s k))
 
 put-pointed-requires : tie.Need-put-pointed-requires
 put-pointed-requires c κs = search needs
