@@ -88,18 +88,11 @@ module _ (n k : ℕ) where
 
 -- ---- writing them
 
-module _ (d : List ℕ) (a v z n : ℕ) where
-  -- a digit stored, and the rest written behind it
-  pub turn : a + suc z ≤ length d → v ≡ 48 + n / 10 ^ z % 10 → over (set d a v) (a + 1) (decimal z n) ≡ over d a (decimal (suc z) n)
-  unfolding digits
-  turn room e =
-      let l = length-digits 10 48 (omega arith) z n in
-      let one : a + length (v ∷ []) ≤ length d = omega arith in
-      onto d (v ∷ []) (decimal z n) a (a + 1) (sets-over d (v ∷ []) a one) refl refl (omega arith) ∙ ap (λ (w : ℕ). over d a (w ∷ decimal z n)) e
-
--- no digit, and nothing written
-pub none : (d : List ℕ) (a n : ℕ) → a ≤ length d → d ≡ over d a (decimal 0 n)
+-- a digit stored, and the rest written behind it
+pub turn : (d : List ℕ) (a v z n : ℕ) → a + suc z ≤ length d → v ≡ 48 + n / 10 ^ z % 10 →
+    over (set d a v) (a + 1) (decimal z n) ≡ over d a (decimal (suc z) n)
 unfolding digits
-none d a n h =
-    let room : a + length {A = ℕ} [] ≤ length d = omega arith in
-    sets-over d [] a room
+turn d a v z n room e =
+    let l = length-digits 10 48 (omega arith) z n in
+    let one : a + length (v ∷ []) ≤ length d = omega arith in
+    onto d (v ∷ []) (decimal z n) a (a + 1) (sets-over d (v ∷ []) a one) refl refl (omega arith) ∙ ap (λ (w : ℕ). over d a (w ∷ decimal z n)) e

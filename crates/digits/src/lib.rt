@@ -14,10 +14,13 @@ pub enum Field {
     Wrong,
 }
 
+// No field takes more bytes. Nine decimal digits fit 32 bits, and nine groups fit 64.
+const WIDEST: usize = 9;
+
 // ---- decimal digits, by subtracting powers of ten
 //
-// They are written in blocks of seven, and no field has more. A number n below 10^7 is held as 256 n: to take 256 p - 1 from
-// that is to take p from the number and to count it in the low byte.
+// They are written in blocks of seven, and no field that is written has more. A number n below 10^7 is held as 256 n:
+// to take 256 p - 1 from that is to take p from the number and to count it in the low byte.
 
 // The character 0.
 const ZERO: u32 = 48;
@@ -48,8 +51,8 @@ fn power(zeros: usize) -> u32
     }
 }
 
-// Takes a part away once, where it fits. The difference decides, without a branch.
-fn less(x: u32, part: u32) -> u32
+// Takes a part away once, where it fits. The difference decides: a machine that can choose without a branch needs none.
+fn without(x: u32, part: u32) -> u32
     requires { ⌜ (x < 2 * part) × (part ≤ 2 ^ 31) ⌝ }
     ensures { λ r. ⌜ r ≡ x % part ⌝ }
 {
@@ -57,17 +60,17 @@ fn less(x: u32, part: u32) -> u32
     if rest < WRAPPED { rest } else { x }
 }
 
-// Takes a power of ten away as often as it fits, at most nine times, by eight, four, two and one: the digit in the low byte,
-// what is left above it.
+// Takes a power of ten away as often as it fits, at most nine times, by eight, four, two and one: the digit in the
+// low byte, what is left above it.
 fn split(x: u32, zeros: usize) -> u32
     requires { ⌜ (zeros < 7) × (x % 256 ≡ 0) × (x / 256 < 10 ^ suc zeros) ⌝ }
     ensures { λ r. ⌜ r ≡ 256 * (x / 256 % 10 ^ zeros) + x / 256 / 10 ^ zeros ⌝ }
 {
     let part = 256 * power(zeros) - 1;
-    let below_eight = less(x, 8 * part);
-    let below_four = less(below_eight, 4 * part);
-    let below_two = less(below_four, 2 * part);
-    less(below_two, part)
+    let below_eight = without(x, 8 * part);
+    let below_four = without(below_eight, 4 * part);
+    let below_two = without(below_four, 2 * part);
+    without(below_two, part)
 }
 
 // The number alone, with nothing counted.
@@ -83,8 +86,8 @@ struct Parts {
     low: u32,
 }
 
-// Takes 10^7 away as often as it fits. What is left is below 10^7 as many times as `times` says, which each turn halves; a u32
-// is below 430 times.
+// Takes 10^7 away as often as it fits. What is left is below `times` times 10^7, which each turn halves; a u32 is
+// below 430 times 10^7.
 fn cut(n: u32) -> Parts
     ensures { λ r. ⌜ (r .high ≡ n / 10 ^ 7) × (r .low ≡ n % 10 ^ 7) ⌝ }
 {
@@ -103,7 +106,7 @@ fn cut(n: u32) -> Parts
 }
 
 // Holds what n is below the power with width zeros.
-fn low(n: u32, width: usize) -> u32
+fn held(n: u32, width: usize) -> u32
     requires { ⌜ width < 8 ⌝ }
     ensures { λ r. ⌜ r ≡ 256 * (n % 10 ^ width) ⌝ }
 {
@@ -129,7 +132,7 @@ fn put_block(out: &mut [u8], at: usize, width: usize, n: u32)
         return;
     }
     let last = at + (width - 1);
-    let mut x = low(n, width);
+    let mut x = held(n, width);
     let mut zeros = BLOCK;
     while 1 < zeros {
         zeros -= 1;
@@ -142,46 +145,7 @@ fn put_block(out: &mut [u8], at: usize, width: usize, n: u32)
     out[last] = (ZERO + x / 256) as u8;
 }
 
-// Writes width decimal digits, with leading zeros: whole blocks from the end on, and what is left of the width.
-pub fn put_decimal(out: &mut [u8], at: usize, width: usize, n: u32)
-    ensures { λ _. ⌜ PutDecimal (now (out .entry)) at width n (now (out .exit)) ⌝ }
-{
-    if !lent::has_room(out.len(), at, width) {
-        return;
-    }
-    let mut left = width;
-    let mut m = n;
-    while BLOCK < left {
-        left -= BLOCK;
-        let parts = cut(m);
-        put_block(out, at + left, BLOCK, parts.low);
-        m = parts.high;
-    }
-    put_block(out, at, left, m);
-}
-
-// ---- groups
-
-// Writes width groups of six bits, each under bits 01; unused high bits are 0.
-pub fn put_groups(out: &mut [u8], at: usize, width: usize, n: u32)
-    ensures { λ _. ⌜ PutGroups (now (out .entry)) at width n (now (out .exit)) ⌝ }
-{
-    if !lent::has_room(out.len(), at, width) {
-        return;
-    }
-    let mut left = width;
-    let mut m = n;
-    while 0 < left {
-        left -= 1;
-        out[at + left] = (64 + m % 64) as u8;
-        m /= 64;
-    }
-}
-
-// ---- reading
-
-// No field takes more bytes. Nine decimal digits fit 32 bits, and nine groups fit 64.
-const WIDEST: usize = 9;
+// ---- digits of either base
 
 // Reads the whole of s as digits of a number that is at most top.
 fn get(s: &[u8], base: u64, off: u64, top: u32) -> Field
@@ -209,6 +173,40 @@ fn get(s: &[u8], base: u64, off: u64, top: u32) -> Field
         return Field::Wrong;
     }
     Field::Value(v as u32)
+}
+
+// Writes width decimal digits, with leading zeros: whole blocks from the end on, and what is left of the width.
+pub fn put_decimal(out: &mut [u8], at: usize, width: usize, n: u32)
+    ensures { λ _. ⌜ PutDecimal (now (out .entry)) at width n (now (out .exit)) ⌝ }
+{
+    if !lent::has_room(out.len(), at, width) {
+        return;
+    }
+    let mut left = width;
+    let mut m = n;
+    while BLOCK < left {
+        left -= BLOCK;
+        let parts = cut(m);
+        put_block(out, at + left, BLOCK, parts.low);
+        m = parts.high;
+    }
+    put_block(out, at, left, m);
+}
+
+// Writes width groups of six bits, each under bits 01; unused high bits are 0.
+pub fn put_groups(out: &mut [u8], at: usize, width: usize, n: u32)
+    ensures { λ _. ⌜ PutGroups (now (out .entry)) at width n (now (out .exit)) ⌝ }
+{
+    if !lent::has_room(out.len(), at, width) {
+        return;
+    }
+    let mut left = width;
+    let mut m = n;
+    while 0 < left {
+        left -= 1;
+        out[at + left] = (64 + m % 64) as u8;
+        m /= 64;
+    }
 }
 
 // Reads decimal digits of a number that is at most top.

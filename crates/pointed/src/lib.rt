@@ -2,7 +2,7 @@
 use digits::Field;
 ghost use Rattle.pointed.specs.Contracts.{PutPointed, ReadPointed};
 
-// Writes the whole part as width digits, the point, and the tenths: all digits first, then the point before the last of them.
+// Writes the whole part as width digits, the point, and the tenths: all digits, then the point before the last.
 pub fn put_pointed(out: &mut [u8], at: usize, width: usize, n: u32)
     ensures { λ _. ⌜ PutPointed (now (out .entry)) at width n (now (out .exit)) ⌝ }
 {

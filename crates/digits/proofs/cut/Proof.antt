@@ -13,14 +13,13 @@ abbrev μ-loop : tie.MeasureT-loop
 μ-loop n high₀ low₀ times₀ high low times = times
 
 -- a turn takes half of them away, where they fit
-halved : (c : tie.Joined1 Inv-loop μ-loop) →
-    (10 ^ 7 * c .if1 .high + c .if1 .low ≡ c .before .before .before .args .n) × (c .if1 .low < 10 ^ 7 * (c .before .before .loop .times - c .before .before .loop .times / 2))
-halved c =
+abbrev Halved : tie.Joined1 Inv-loop μ-loop → Type 0
+Halved c =
     let l = c .before .before .loop in
-    ⊎-elim {C = (10 ^ 7 * c .if1 .high + c .if1 .low ≡ c .before .before .before .args .n) × (c .if1 .low < 10 ^ 7 * (l .times - l .times / 2))}
-    (λ w. (omega arith, omega arith))
-    (λ w. (omega arith, omega arith))
-    (c .if1 .came)
+    (10 ^ 7 * c .if1 .high + c .if1 .low ≡ c .before .before .before .args .n) × (c .if1 .low < 10 ^ 7 * (l .times - l .times / 2))
+
+halved : (c : tie.Joined1 Inv-loop μ-loop) → Halved c
+halved c = ⊎-elim {C = Halved c} (λ w. (omega arith, omega arith)) (λ w. (omega arith, omega arith)) (c .if1 .came)
 
 loop-holds : tie.Need-loop-holds Inv-loop μ-loop
 loop-holds c = (omega arith, omega arith, omega arith, omega arith)

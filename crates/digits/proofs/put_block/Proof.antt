@@ -3,34 +3,28 @@
 use Prim.Native.Nat.{ℕ, suc, _+_, _-_, _*_, _/_, _%_, _^_, _≤_, _<_, min}
 use mathlib.Core.List.{List}
 use mathlib.Core.Path.{_≡_, refl, sym, ap, subst, _∙_}
-use native.Mathlib.Nat.{min-eq-left, min-eq-right, le-of-lt, pow-zero, div-one}
+use native.Mathlib.Nat.{min-eq-left, min-eq-right, le-of-lt}
 use native.Mathlib.Omega.{arith}
 use borrow.Author.Needs.{needs}
 use lib.ListN.{length, set, length-set}
 use Rattle.laws.specs.Over.{over}
 use Rattle.digits.specs.Digits.{decimal}
-use Rattle.digits.proofs.Powers.{may-split, splits, turn, none}
+use Rattle.digits.proofs.FromTheEnd.{none, one}
+use Rattle.digits.proofs.Powers.{may-split, splits, turn}
 use Rattle.digits.proofs.put_block.Statement.{statement}
 use Rattle.digits.proofs.put_block.Tie as tie
 
-module _ (out : List ℕ) (at width n v : ℕ) (room : at + width ≤ length out) where
-  -- the digit of the place with k zeros stored, and the k below it written behind it
-  next : (k : ℕ) → k < width → v ≡ 48 + n / 10 ^ k % 10 →
-      over (set out (at + (width - 1) - k) v) (at + (width - k)) (decimal k n) ≡ over out (at + (width - suc k)) (decimal (suc k) n)
-  next k h e =
-      let i : at + (width - 1) - k ≡ at + (width - suc k) = omega arith in
-      let j : at + (width - k) ≡ at + (width - suc k) + 1 = omega arith in
-      rw (i, j) (turn out (at + (width - suc k)) v k n (omega arith) e)
-
-  -- the last digit stored
-  final : 0 < width → v ≡ 48 + n % 10 → set out (at + (width - 1)) v ≡ over out (at + (width - 1)) (decimal 1 n)
-  final some e =
-      let f : v ≡ 48 + n / 10 ^ 0 % 10 = rw (pow-zero, div-one) e in
-      none (set out (at + (width - 1)) v) (at + (width - 1) + 1) n (simp length-set (omega arith)) ∙ turn out (at + (width - 1)) v 0 n (omega arith) f
+-- the digit of the place with k zeros stored, and the k below it written behind it
+next : (out : List ℕ) (at width n v : ℕ) → at + width ≤ length out → (k : ℕ) → k < width → v ≡ 48 + n / 10 ^ k % 10 →
+    over (set out (at + (width - 1) - k) v) (at + (width - k)) (decimal k n) ≡ over out (at + (width - suc k)) (decimal (suc k) n)
+next out at width n v room k h e =
+    let i : at + (width - 1) - k ≡ at + (width - suc k) = omega arith in
+    let j : at + (width - k) ≡ at + (width - suc k) + 1 = omega arith in
+    rw (i, j) (turn out (at + (width - suc k)) v k n (omega arith) e)
 
 -- no digit, and nothing written
 nothing : (d : List ℕ) (at width n : ℕ) → at + width ≤ length d → width ≡ 0 → d ≡ over d at (decimal width n)
-nothing d at width n h e = none d at n (omega arith) ∙ ap (λ (w : ℕ). over d at (decimal w n)) (sym e)
+nothing d at width n h e = none 10 48 (omega arith) d at n (omega arith) ∙ ap (λ (w : ℕ). over d at (decimal w n)) (sym e)
 
 -- k digits of n are still to write, and x holds what they say
 abbrev Left : List ℕ → ℕ → ℕ → ℕ → List ℕ → ℕ → ℕ → Type 0
@@ -57,15 +51,15 @@ sub-last c = search needs
 add-last : tie.Need-add-last Inv-loop μ-loop
 add-last c = search needs
 
-low-requires : tie.Need-low-requires Inv-loop μ-loop
-low-requires c κs = search needs
+held-requires : tie.Need-held-requires Inv-loop μ-loop
+held-requires c κs = search needs
 
 loop-holds : tie.Need-loop-holds Inv-loop μ-loop
 loop-holds c =
     let a = c .before .before .before .args in
     let e : a .at + (a .width - a .width) ≡ a .at = omega arith in
     let all : min 7 (a .width) ≡ a .width = min-eq-right (omega arith) in
-    (omega arith, omega arith, moved _ _ _ _ _ _ _ _ (sym all) (c .low .ensures, rw e, refl))
+    (omega arith, omega arith, moved _ _ _ _ _ _ _ _ (sym all) (c .held .ensures, rw e, refl))
 
 sub-zeros : tie.Need-sub-zeros Inv-loop μ-loop
 sub-zeros c = search needs
@@ -149,15 +143,15 @@ loop-again-2 c =
     (omega arith, omega arith, moved _ _ _ _ _ _ _ _ e (l .inv .2))
 
 -- one digit is left
-one : (c : tie.After-loop Inv-loop μ-loop) → min (c .before .loop .zeros) (c .before .before .before .before .before .args .width) ≡ 1
-one c =
+last-one : (c : tie.After-loop Inv-loop μ-loop) → min (c .before .loop .zeros) (c .before .before .before .before .before .args .width) ≡ 1
+last-one c =
     let e : c .before .loop .zeros ≡ 1 = omega arith in
     rw e (min-eq-left (omega arith))
 
 ends : (c : tie.After-loop Inv-loop μ-loop) → c .before .loop .x / 256 ≡ c .before .before .before .before .before .args .n % 10
 ends c =
     let s = c .before .before .before .before .before in
-    let h = moved _ _ _ _ _ _ _ _ (one c) (c .before .loop .inv .2) .0 in
+    let h = moved _ _ _ _ _ _ _ _ (last-one c) (c .before .loop .inv .2) .0 in
     let e : c .before .loop .x ≡ 256 * (s .args .n % 10) = h in
     omega arith
 
@@ -179,7 +173,7 @@ returns-2 c =
     let a = s .args in
     let l = c .before .loop in
     let room : a .at + a .width ≤ length (l .out) = rw (l .inv .2 .2) (s .pre .1) in
-    final (l .out) (a .at) (a .width) (a .n) _ room (omega arith) (ap (λ (m : ℕ). 48 + m) (ends c)) ∙ moved _ _ _ _ _ _ _ _ (one c) (l .inv .2) .1
+    one 10 48 (omega arith) (l .out) (a .at + (a .width - 1)) (a .n) _ (omega arith) (ap (λ (m : ℕ). 48 + m) (ends c)) ∙ moved _ _ _ _ _ _ _ _ (last-one c) (l .inv .2) .1
 
 pub put-block-spec : {M : Type 1} → statement M
 put-block-spec =
@@ -190,7 +184,7 @@ put-block-spec =
     returns
     sub-last
     add-last
-    low-requires
+    held-requires
     loop-holds
     sub-zeros
     split-requires

@@ -31,27 +31,27 @@ mul-part c = omega (arith, most c)
 sub-part : tie.Need-sub-part
 sub-part c = omega (arith, some c)
 
-mul-less : tie.Need-mul-less
-mul-less c = omega (arith, most c)
+mul-without : tie.Need-mul-without
+mul-without c = omega (arith, most c)
 
-less-requires : tie.Need-less-requires
-less-requires c κs = (omega (arith, near c, some c), omega (arith, most c))
+without-requires : tie.Need-without-requires
+without-requires c κs = (omega (arith, near c, some c), omega (arith, most c))
 
-mul-less-2 : tie.Need-mul-less-2
-mul-less-2 c = omega (arith, most (c .before))
+mul-without-2 : tie.Need-mul-without-2
+mul-without-2 c = omega (arith, most (c .before))
 
-less-requires-2 : tie.Need-less-requires-2
-less-requires-2 c κs = (omega (arith, under _ _ _ (c .less .ensures) (omega (arith, some (c .before)))), omega (arith, most (c .before)))
+without-requires-2 : tie.Need-without-requires-2
+without-requires-2 c κs = (omega (arith, under _ _ _ (c .without .ensures) (omega (arith, some (c .before)))), omega (arith, most (c .before)))
 
-mul-less-3 : tie.Need-mul-less-3
-mul-less-3 c = omega (arith, most (c .before .before))
+mul-without-3 : tie.Need-mul-without-3
+mul-without-3 c = omega (arith, most (c .before .before))
 
-less-requires-3 : tie.Need-less-requires-3
-less-requires-3 c κs = (omega (arith, under _ _ _ (c .less2 .ensures) (omega (arith, some (c .before .before)))), omega (arith, most (c .before .before)))
+without-requires-3 : tie.Need-without-requires-3
+without-requires-3 c κs = (omega (arith, under _ _ _ (c .without2 .ensures) (omega (arith, some (c .before .before)))), omega (arith, most (c .before .before)))
 
-less-requires-4 : tie.Need-less-requires-4
-less-requires-4 c κs =
-    (omega (arith, under _ _ _ (c .less3 .ensures) (omega (arith, some (c .before .before .before)))), omega (arith, most (c .before .before .before)))
+without-requires-4 : tie.Need-without-requires-4
+without-requires-4 c κs =
+    (omega (arith, under _ _ _ (c .without3 .ensures) (omega (arith, some (c .before .before .before)))), omega (arith, most (c .before .before .before)))
 
 returns : tie.Need-returns
 returns c =
@@ -62,8 +62,8 @@ returns c =
     let s = p .before in
     let x = s .args .x in
     let e : x ≡ 256 * (x / 256) = omega arith in
-    c .less4 .ensures
-    ∙ rw (third .less3 .ensures, second .less2 .ensures, first .less .ensures) (steps x (256 * p .power .result - 1))
+    c .without4 .ensures
+    ∙ rw (third .without3 .ensures, second .without2 .ensures, first .without .ensures) (steps x (256 * p .power .result - 1))
     ∙ ap (λ (y : ℕ). y % (256 * p .power .result - 1)) e
     ∙ counted (x / 256) (p .power .result) (some p) (near p)
     ∙ rw (p .power .ensures)
@@ -75,11 +75,11 @@ split-spec =
     power-requires
     mul-part
     sub-part
-    mul-less
-    less-requires
-    mul-less-2
-    less-requires-2
-    mul-less-3
-    less-requires-3
-    less-requires-4
+    mul-without
+    without-requires
+    mul-without-2
+    without-requires-2
+    mul-without-3
+    without-requires-3
+    without-requires-4
     returns)

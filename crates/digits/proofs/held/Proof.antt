@@ -1,12 +1,12 @@
--- `digits::low` meets its contract: before each turn it holds what n is below the power with `zeros` zeros. Assumes nothing.
+-- `digits::held` meets its contract: before each turn it holds what n is below the power with `zeros` zeros. Assumes nothing.
 use Prim.Native.Nat.{ℕ, suc, _-_, _*_, _%_, _^_, _≤_, _<_}
 use mathlib.Core.Path.{_≡_, sym, ap, _∙_}
 use native.Mathlib.Nat.{mod-eq-of-lt}
 use native.Mathlib.Omega.{arith}
 use borrow.Author.Needs.{needs}
 use Rattle.digits.proofs.Powers.{may-split, splits, power-most}
-use Rattle.digits.proofs.low.Statement.{statement}
-use Rattle.digits.proofs.low.Tie as tie
+use Rattle.digits.proofs.held.Statement.{statement}
+use Rattle.digits.proofs.held.Tie as tie
 
 abbrev Inv-loop : tie.InvT-loop
 Inv-loop n width x₀ zeros₀ x zeros = (width ≤ zeros) × (zeros ≤ 7) × (x ≡ 256 * (n % 10 ^ zeros))
@@ -71,8 +71,8 @@ returns-2 c =
     let e : l .zeros ≡ c .before .before .before .before .before .before .args .width = omega arith in
     rw (← e) (l .inv .2)
 
-pub low-spec : {M : Type 1} → statement M
-low-spec =
+pub held-spec : {M : Type 1} → statement M
+held-spec =
     tie.close
     (tie.spec
     Inv-loop
