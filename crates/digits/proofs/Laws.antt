@@ -4,7 +4,8 @@ use Prim.Native.Nat.{ℕ, zero, suc, _+_, _-_, _*_, _/_, _%_, _^_, _≤_, _<_}
 use mathlib.Core.Path.{_≡_, refl, sym, ap, ap₂, _∙_}
 use mathlib.Core.List.{List, [], _∷_, _++_}
 use mathlib.Core.Bool.{true, _&&_}
-use native.Mathlib.Nat.{mod-eq-of-lt, mod-lt, pow-succ', pow-zero, div-one, div-add-mod', div-div-eq-div-mul, zero-add, suc-add, mul-comm, mul-assoc, one-le-pow, mul-add-div-right, mul-add-mod-self-right, add-sub-cancel-left, le-trans, pow-le-pow-right, pow-le-pow-left}
+use native.Mathlib.Nat.{mod-eq-of-lt, mod-lt, pow-succ', pow-zero, div-one, div-add-mod', div-div-eq-div-mul, zero-add, suc-add, mul-comm, mul-one, mul-assoc, one-le-pow, mul-add-div-right, mul-add-mod-self-right, add-sub-cancel-left, le-trans, pow-le-pow-right, pow-le-pow-left}
+use native.Mathlib.Numerals.{add-one}
 use native.Mathlib.Omega.{arith}
 use borrow.Author.Tests.{ltb-true, leb-true, lt-ltb, le-leb, lt-leb, le-ltb}
 use lib.Arith.{mod-mul, digits-lt, digits-div, lt-one}
@@ -63,11 +64,15 @@ module _ (b off : ℕ) (some : 0 < b) where
   digits-split (suc k) w n = rw (suc-add k w)
       (ap₂ _∷_ (rw (pow-add b k w, mul-comm (b ^ k) (b ^ w), div-div-eq-div-mul n (b ^ w) (b ^ k))) (digits-split k w n))
 
+  pub digits-one : (n : ℕ) → digits b off 1 n ≡ (off + n % b) ∷ []
+  unfolding digits
+  digits-one n = rw (pow-zero, div-one)
+
   -- the lowest digit, behind those of the rest
   pub digits-last : (w n : ℕ) → digits b off (suc w) n ≡ digits b off w (n / b) ++ ((off + n % b) ∷ [])
-  unfolding digits
-  digits-last zero n = rw (pow-zero, div-one)
-  digits-last (suc w) n = ap₂ _∷_ (rw (pow-succ' b w, div-div-eq-div-mul n b (b ^ w))) (digits-last w n)
+  digits-last w n =
+      let once : b ^ 1 ≡ b = pow-succ' b 0 ∙ rw pow-zero (mul-one b) in
+      rw (← add-one w) (digits-split w 1 n ∙ rw (once, digits-one n))
 
   digit-low : (d : ℕ) → isDigit b off d ≡ true → d - off < b
   digit-low d h = ltb-true (d - off) b (and-right (leb off d) (ltb (d - off) b) h)

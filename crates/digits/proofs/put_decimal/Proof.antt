@@ -1,24 +1,18 @@
 -- `digits::put_decimal` meets its contract: before each turn the digits behind the first `left` are written, and m is what those first ones say. Assumes nothing.
-use Prim.Native.Nat.{ℕ, _+_, _-_, _/_, _^_, _≤_}
-use mathlib.Core.List.{List}
-use mathlib.Core.Path.{_≡_, refl, sym, ap, _∙_}
-use native.Mathlib.Nat.{pow-zero, div-one, sub-self}
+use Prim.Native.Nat.{ℕ, _+_, _-_}
+use mathlib.Core.Path.{_≡_, sym, ap, _∙_}
 use native.Mathlib.Omega.{arith}
 use borrow.Author.Needs.{needs}
 use borrow.Author.Tests.{leb-true, leb-false, not-true, not-false}
-use lib.ListN.{length}
 use Rattle.laws.specs.Over.{over}
-use Rattle.laws.proofs.OverLaws.{over-short, length-over}
 use Rattle.digits.specs.Digits.{decimal}
-use Rattle.digits.proofs.FromTheEnd.{none, joins, above, more}
-use Rattle.digits.proofs.Laws.{length-digits, digits-below}
+use Rattle.digits.proofs.FromTheEnd.{Written, no-room, begun, goes-on, ended}
+use Rattle.digits.proofs.Laws.{digits-below}
 use Rattle.digits.proofs.put_decimal.Statement.{statement}
 use Rattle.digits.proofs.put_decimal.Tie as tie
 
 abbrev Inv-loop : tie.InvT-loop
-Inv-loop out₀ at width n left₀ m₀ out left m =
-    (left ≤ width) × (at + width ≤ length out₀) × (m ≡ n / 10 ^ (width - left)) × (out ≡ over out₀ (at + left) (decimal (width - left) n)) ×
-    (length out ≡ length out₀)
+Inv-loop out₀ at width n left₀ m₀ out left m = Written 10 48 out₀ at width n out left m
 
 abbrev μ-loop : tie.MeasureT-loop
 μ-loop out₀ at width n left₀ m₀ out left m = left
@@ -27,17 +21,10 @@ has-room-requires : tie.Need-has-room-requires Inv-loop μ-loop
 has-room-requires c κs = search needs
 
 returns : tie.Need-returns Inv-loop μ-loop
-returns c =
-    let a = c .before .before .before .args in
-    let short = sym (c .before .has-room .ensures) ∙ not-true _ (c .if1 .taken) in
-    let l = length-digits 10 48 (omega arith) (a .width) (a .n) in
-    sym (over-short (a .out .now) (decimal (a .width) (a .n)) (a .at) (rw l (leb-false _ _ short)))
+returns c = no-room 10 48 (omega arith) _ _ _ _ (leb-false _ _ (sym (c .before .has-room .ensures) ∙ not-true _ (c .if1 .taken)))
 
 loop-holds : tie.Need-loop-holds Inv-loop μ-loop
-loop-holds c =
-    let a = c .before .before .before .args in
-    let room : a .at + a .width ≤ length (a .out .now) = leb-true _ _ (sym (c .before .has-room .ensures) ∙ not-false _ (c .if1 .left)) in
-    (omega arith, room, rw (sub-self, pow-zero, div-one), rw sub-self (none 10 48 (omega arith) (a .out .now) (a .at + a .width) (a .n) room), refl)
+loop-holds c = begun 10 48 (omega arith) _ _ _ _ (leb-true _ _ (sym (c .before .has-room .ensures) ∙ not-false _ (c .if1 .left)))
 
 sub-left : tie.Need-sub-left Inv-loop μ-loop
 sub-left c = search needs
@@ -59,13 +46,11 @@ loop-again c =
     let b = c .before .before in
     let t = b .before .before in
     let l = t .before .before .loop in
-    let i = l .inv in
     let a = t .before .before .before .before .before .before .args in
-    let seven : 7 ≤ l .left = omega arith in
     let parts = t .cut .ensures in
     let low : decimal 7 (t .cut .result .low) ≡ decimal 7 (l .m) = ap (decimal 7) (parts .1) ∙ digits-below 10 48 (omega arith) 7 (l .m) in
-    let e = more 10 48 (omega arith) (a .width) (l .left) (a .n) (l .m) 7 (i .0) seven (i .2) (a .out .now) (a .at) (i .1) (i .3) (b .put-block .ensures ∙ ap (over _ _) low) in
-    (omega arith, i .1, parts .0 ∙ above 10 48 (omega arith) (a .width) (l .left) (a .n) (l .m) 7 (i .0) seven (i .2), e, ap length e ∙ length-over (a .out .now) _ _)
+    let h = goes-on 10 48 (omega arith) (a .out .now) (a .at) (a .width) (a .n) _ _ (l .left) (l .m) 7 (omega arith) (l .inv) (b .put-block .ensures ∙ ap (over _ _) low) in
+    (h .0, h .1, parts .0 ∙ h .2, h .3, h .4)
 
 put-block-requires-2 : tie.Need-put-block-requires-2 Inv-loop μ-loop
 put-block-requires-2 c κs = (omega arith, omega arith)
@@ -77,14 +62,12 @@ returns-2 : tie.Need-returns-2 Inv-loop μ-loop
 returns-2 c =
     let b = c .before .before in
     let l = b .before .before .before .loop in
-    let i = l .inv in
     let a = b .before .before .before .before .before .before .before .args in
-    let e : l .left + (a .width - l .left) ≡ a .width = omega arith in
-    b .put-block2 .ensures
-    ∙ ap (λ (s : List ℕ). over s (a .at) (decimal (l .left) (l .m))) (i .3)
-    ∙ ap (λ (x : ℕ). over (over (a .out .now) (a .at + l .left) (decimal (a .width - l .left) (a .n))) (a .at) (decimal (l .left) x)) (i .2)
-    ∙ joins 10 48 (omega arith) (a .out .now) (a .at) (l .left) (a .width - l .left) (a .n) (omega arith)
-    ∙ ap (λ (w : ℕ). over (a .out .now) (a .at) (decimal w (a .n))) e
+    let first : a .at + (l .left - l .left) ≡ a .at = omega arith in
+    let h =
+    goes-on 10 48 (omega arith) (a .out .now) (a .at) (a .width) (a .n) _ _ (l .left) (l .m) (l .left) (omega arith) (l .inv)
+    (b .put-block2 .ensures ∙ ap (λ (p : ℕ). over (l .out) p (decimal (l .left) (l .m))) (sym first)) in
+    ended 10 48 (omega arith) (a .out .now) (a .at) (a .width) (a .n) _ _ _ (omega arith) h
 
 pub put-decimal-spec : {M : Type 1} → statement M
 put-decimal-spec =

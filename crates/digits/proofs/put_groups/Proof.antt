@@ -1,23 +1,17 @@
 -- `digits::put_groups` meets its contract: before each turn the first `left` groups are still to write, and `m` is what they say.
 -- Assumes nothing.
-use Prim.Native.Nat.{_+_, _-_, _/_, _^_, _≤_}
-use mathlib.Core.Path.{_≡_, refl, sym, ap, _∙_}
-use native.Mathlib.Nat.{pow-zero, div-one, sub-self, sub-zero, add-zero}
+use Prim.Native.Nat.{_+_, _-_}
+use mathlib.Core.Path.{refl, sym, _∙_}
 use native.Mathlib.Omega.{arith}
 use borrow.Author.Needs.{needs}
 use borrow.Author.Tests.{leb-true, leb-false, not-true, not-false}
-use lib.ListN.{length}
-use Rattle.laws.specs.Over.{over}
-use Rattle.laws.proofs.OverLaws.{over-short, length-over}
 use Rattle.digits.specs.Digits.{groups}
-use Rattle.digits.proofs.FromTheEnd.{none, one, above, more}
-use Rattle.digits.proofs.Laws.{length-digits}
+use Rattle.digits.proofs.FromTheEnd.{Written, no-room, one, begun, goes-on, ended}
 use Rattle.digits.proofs.put_groups.Statement.{statement}
 use Rattle.digits.proofs.put_groups.Tie as tie
 
 abbrev Inv-loop : tie.InvT-loop
-Inv-loop out₀ at width n left₀ m₀ out left m =
-    (at + width ≤ length out₀) × (left ≤ width) × (m ≡ n / 64 ^ (width - left)) × (out ≡ over out₀ (at + left) (groups (width - left) n)) × (length out ≡ length out₀)
+Inv-loop out₀ at width n left₀ m₀ out left m = Written 64 64 out₀ at width n out left m
 
 abbrev μ-loop : tie.MeasureT-loop
 μ-loop out₀ at width n left₀ m₀ out left m = left
@@ -26,18 +20,10 @@ has-room-requires : tie.Need-has-room-requires Inv-loop μ-loop
 has-room-requires c κs = search needs
 
 returns : tie.Need-returns Inv-loop μ-loop
-returns c =
-    let s = c .before .before .before in
-    let a = s .args in
-    let short = sym (c .before .has-room .ensures) ∙ not-true _ (c .if1 .taken) in
-    let l = length-digits 64 64 (omega arith) (a .width) (a .n) in
-    sym (over-short (a .out .now) (groups (a .width) (a .n)) (a .at) (rw l (leb-false _ _ short)))
+returns c = no-room 64 64 (omega arith) _ _ _ _ (leb-false _ _ (sym (c .before .has-room .ensures) ∙ not-true _ (c .if1 .taken)))
 
 loop-holds : tie.Need-loop-holds Inv-loop μ-loop
-loop-holds c =
-    let a = c .before .before .before .args in
-    let room : a .at + a .width ≤ length (a .out .now) = leb-true _ _ (sym (c .before .has-room .ensures) ∙ not-false _ (c .if1 .left)) in
-    (room, omega arith, rw (sub-self, pow-zero, div-one), rw sub-self (none 64 64 (omega arith) (a .out .now) (a .at + a .width) (a .n) room), refl)
+loop-holds c = begun 64 64 (omega arith) _ _ _ _ (leb-true _ _ (sym (c .before .has-room .ensures) ∙ not-false _ (c .if1 .left)))
 
 sub-left : tie.Need-sub-left Inv-loop μ-loop
 sub-left c = search needs
@@ -60,21 +46,15 @@ loop-less c = search needs
 loop-again : tie.Need-loop-again Inv-loop μ-loop
 loop-again c =
     let l = c .before .loop in
-    let i = l .inv in
     let a = c .before .before .before .before .before .args in
-    let some : 1 ≤ l .left = c .loop-test .taken in
     let stored = one 64 64 (omega arith) (l .out) (a .at + (l .left - 1)) (l .m) _ (omega arith) refl in
-    let e = more 64 64 (omega arith) (a .width) (l .left) (a .n) (l .m) 1 (i .1) some (i .2) (a .out .now) (a .at) (i .0) (i .3) stored in
-    (i .0, omega arith, above 64 64 (omega arith) (a .width) (l .left) (a .n) (l .m) 1 (i .1) some (i .2), e, ap length e ∙ length-over (a .out .now) _ _)
+    goes-on 64 64 (omega arith) (a .out .now) (a .at) (a .width) (a .n) _ _ (l .left) (l .m) 1 (c .loop-test .taken) (l .inv) stored
 
 same-length : tie.Need-same-length Inv-loop μ-loop
 same-length c = search needs
 
 returns-2 : tie.Need-returns-2 Inv-loop μ-loop
-returns-2 c =
-    let l = c .before .loop in
-    let e : l .left ≡ 0 = omega arith in
-    l .inv .3 ∙ rw (e, add-zero, sub-zero)
+returns-2 c = ended 64 64 (omega arith) _ _ _ _ _ (c .before .loop .left) (c .before .loop .m) (omega arith) (c .before .loop .inv)
 
 pub put-groups-spec : {M : Type 1} → statement M
 put-groups-spec =
