@@ -168,14 +168,6 @@ fn groups(bytes: &[u8]) -> Option<i32> {
     Some(n)
 }
 
-fn signed(minus: bool, size: i32) -> Option<i32> {
-    match (minus, size) {
-        (true, 0) => None,
-        (true, _) => Some(-size),
-        (false, _) => Some(size),
-    }
-}
-
 // ---- the text record
 
 const BLANK_TEXT: &[u8; TEXT] = b"D0000000T0000t0.0+0Z0000H0000000N0000000F0000000V000.0E+000z0000S         ";
@@ -226,7 +218,7 @@ fn text_stop(text: &[u8]) -> Option<i32> {
 fn text_pupil(text: &[u8]) -> Option<i32> {
     match *text {
         [b'+', a, b, c] => digits(&[a, b, c]),
-        [b'-', a, b, c] => signed(true, digits(&[a, b, c])?),
+        [b'-', a, b, c] => digits(&[a, b, c]).map(|size| -size),
         _ => None,
     }
 }
@@ -311,7 +303,8 @@ pub fn write_packed(fields: &Fields, serial: &[u8], with_sum: bool, out: &mut [u
 }
 
 fn packed_pupil(first: u8, second: u8) -> Option<i32> {
-    signed(first & 0x20 != 0, groups(&[first & !0x20, second])?)
+    let size = groups(&[first & !0x20, second])?;
+    Some(if first & 0x20 != 0 { -size } else { size })
 }
 
 #[inline(never)]

@@ -3,7 +3,8 @@
  * Writers and readers of the text record (D), the packed record (Kd) and the fixed data (N), the
  * conversion between 0.1 inch and 1 mm, the checksum, the collector of a received line; for the camera
  * side the cutter of a stream and the recorder. They are proved in Rattle: each takes any input, and a reader
- * accepts exactly the messages that its writer writes.
+ * accepts exactly the messages that its writer writes, a record's reader also those with minus zero for the
+ * entrance pupil, which other makers send.
  *
  * Every function but a recorder's start answers by value with a number: 0 for done, else a refusal (enum
  * heron_refusal). A refusal writes to no memory that is lent for output, and what does not come with an answer
@@ -25,7 +26,7 @@
 #include <stdint.h>
 #include <string.h>
 
-#define HOURHERON_VERSION "0.5.0"
+#define HOURHERON_VERSION "0.6.0"
 
 /* ---- lengths in bytes */
 
@@ -246,7 +247,8 @@ heron_answer heron_write_packed(uint32_t focus, uint32_t aperture, uint32_t stop
  *   4  its last two bytes are not LF CR
  *   5  its checksum is wrong (checksum mode only)
  *   6  contents no writer writes: the first wrong field, 1..12; a tag counts to the field after it
- *   2  out shorter than HERON_RECORD_BYTES: that */
+ *   2  out shorter than HERON_RECORD_BYTES: that
+ * Other makers' minus zero for the entrance pupil, E-000 or 60 40 packed, is read as 0; written again it is plus. */
 heron_answer heron_read_text(const uint8_t *message, size_t len, bool checksum, uint8_t *out, size_t out_len);
 heron_answer heron_read_packed(const uint8_t *message, size_t len, bool checksum, uint8_t *out, size_t out_len);
 

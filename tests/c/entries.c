@@ -262,7 +262,24 @@ static void expect_read_refused(int f, const uint8_t *bytes, size_t len, bool ch
     }
 }
 
-/* Reads a message into exactly the bytes that it takes. Accepted, it must be what the writer writes of its contents. */
+/* Where the pupil's bytes stand in a record, and zero with minus and with plus. */
+static const struct {
+    size_t at, len;
+    const char *minus, *plus;
+} pupils[] = {[TEXT] = {54, 5, "E-000", "E+000"}, [PACKED] = {25, 2, "\x60\x40", "\x40\x40"}};
+
+/* What a writer writes in place of an accepted message: the same, but for minus zero, which is plus zero under its own checksum. */
+static message plus_form(int f, message m, bool checksum)
+{
+    if (f == FIXED || memcmp(m.bytes + pupils[f].at, pupils[f].minus, pupils[f].len) != 0)
+        return m;
+    memcpy(m.bytes + pupils[f].at, pupils[f].plus, pupils[f].len);
+    if (checksum)
+        put_sum(&m);
+    return m;
+}
+
+/* Reads a message into exactly the bytes that it takes. Accepted, its plus form must be what the writer writes of its contents. */
 static heron_answer read_exactly(int f, const message *m, bool checksum, contents *c)
 {
     edge e = next_edge();
@@ -284,9 +301,10 @@ static heron_answer read_exactly(int f, const message *m, bool checksum, content
         c->record = heron_record_unpack(out);
         c->serial = SLICE(c->record.serial);
     }
+    message sent = plus_form(f, *m, checksum);
     uint8_t *again = lend(m->len, e);
     check_answer(write_form(f, c, checksum, again, m->len, e), HERON_DONE, m->len, "what was read, written");
-    check(holds_only(again, m->bytes, m->len), "%s: what was read is written otherwise", forms[f].name);
+    check(holds_only(again, sent.bytes, m->len), "%s: what was read is written otherwise", forms[f].name);
     return answer;
 }
 
@@ -559,14 +577,52 @@ static void test_contents(int f, bool checksum)
         }
 }
 
-/* The reader refuses minus zero. */
+/* ---- request 5: minus zero is 0, and nothing beside it is */
+
+static void try_pupil(int f, const char *bytes, bool accepted, int32_t pupil)
+{
+    for (int checksum = 0; checksum < 2; checksum++) {
+        message m = ended(forms[f].example, checksum != 0);
+        memcpy(m.bytes + pupils[f].at, bytes, pupils[f].len);
+        if (checksum) {
+            /* The example's checksum, then that of the same record with plus zero. */
+            expect_read_refused(f, m.bytes, m.len, true, HERON_CHECKSUM, 0, "a pupil under the example's checksum");
+            message plus = m;
+            memcpy(plus.bytes + pupils[f].at, pupils[f].plus, pupils[f].len);
+            put_sum(&plus);
+            if (memcmp(plus.bytes, m.bytes, m.len - 4) != 0) {
+                memcpy(m.bytes + m.len - 4, plus.bytes + m.len - 4, 2);
+                expect_read_refused(f, m.bytes, m.len, true, HERON_CHECKSUM, 0, "a pupil under the checksum of plus zero");
+            }
+            put_sum(&m);
+        }
+        contents c = example();
+        heron_answer answer = read_exactly(f, &m, checksum != 0, &c);
+        check_answer(answer, accepted ? HERON_DONE : HERON_CONTENTS, accepted ? forms[f].width : 10, "a pupil");
+        check(!accepted || c.record.pupil == pupil, "%s: a pupil read as %" PRId32 ", not %" PRId32, forms[f].name,
+              c.record.pupil, pupil);
+    }
+}
+
 static void test_minus_zero(void)
 {
-    message text = ended(forms[TEXT].example, false), packed = ended(forms[PACKED].example, false);
-    memcpy(text.bytes + 54, "E-000", 5);
-    memcpy(packed.bytes + 25, "\x60\x40", 2);
-    expect_read_refused(TEXT, text.bytes, text.len, false, HERON_CONTENTS, 10, "minus zero as text");
-    expect_read_refused(PACKED, packed.bytes, packed.len, false, HERON_CONTENTS, 10, "minus zero packed");
+    static const struct {
+        int form;
+        const char *bytes;
+        bool accepted;
+        int32_t pupil;
+    } tried[] = {
+        {TEXT, "E-000", true, 0},       {TEXT, "E+000", true, 0},        {TEXT, "E-001", true, -1},
+        {TEXT, "E-010", true, -10},     {TEXT, "E-100", true, -100},     {TEXT, "E-999", true, -999},
+        {TEXT, "E 000", false, 0},      {TEXT, "E0000", false, 0},       {TEXT, "E-00:", false, 0},
+        {TEXT, "E-00 ", false, 0},      {TEXT, "e-000", false, 0},       {TEXT, "E--00", false, 0},
+        {PACKED, "\x60\x40", true, 0},  {PACKED, "\x40\x40", true, 0},   {PACKED, "\x60\x41", true, -1},
+        {PACKED, "\x61\x40", true, -64}, {PACKED, "\x6F\x67", true, -999}, {PACKED, "\x6F\x68", false, 0},
+        {PACKED, "\x70\x40", false, 0}, {PACKED, "\x50\x40", false, 0},  {PACKED, "\x20\x40", false, 0},
+        {PACKED, "\xE0\x40", false, 0}, {PACKED, "\x60\xC0", false, 0},  {PACKED, "\x60\x80", false, 0},
+    };
+    for (size_t i = 0; i < sizeof tried / sizeof tried[0]; i++)
+        try_pupil(tried[i].form, tried[i].bytes, tried[i].accepted, tried[i].pupil);
 }
 
 /* ---- the owner's part, the conversion, the checksum, the names */

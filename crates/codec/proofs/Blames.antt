@@ -3,20 +3,23 @@
 use Prim.Native.Nat.{ℕ, zero, suc, _+_, _-_, _^_, _≤_, _<_}
 use mathlib.Core.List.{List, [], _∷_, _++_}
 use mathlib.Core.Bool.{Bool, true, false}
-use mathlib.Core.Path.{_≡_, refl, sym, ap, _∙_}
+use mathlib.Core.Logic.{inl}
+use mathlib.Core.Path.{_≡_, refl, sym, ap, subst, _∙_}
 use native.Mathlib.Omega.{arith}
 use borrow.Author.Tests.{leb-true, leb-false, le-leb}
 use lib.Dec.{leb}
 use lib.ListN.{length, take, drop, getD, replicate, length-take, length-drop}
 use lib.Seq.{take-all, take-at, drop-at, take-take}
+use Rattle.laws.specs.Member.{_∈_}
 use Rattle.laws.proofs.ListLaws.{drop-of-take}
 use Rattle.laws.proofs.Tests.{told, never, cond-yes, cond-no}
 use Rattle.digits.specs.Digits.{readField, widest}
 use Rattle.digits.specs.declared.Field.{Field}
 use Rattle.digits.specs.declared.Field.the-variants.{Value, Wrong}
-use Rattle.codec.specs.Codec.{Got, got, wrong, Codec, passed, both, mapped, chained, fieldSays, number, printable, text, letter, begins, tagged, _⊗_, viaIso, through}
-use Rattle.codec.specs.Places.{Place, alone, further, fieldOf, FirstWrong}
-use Rattle.codec.proofs.Exact.{Exact, Codes, fine, first-zero, zero-first, number-exact, text-exact, letter-exact, tagged-exact, ⊗-exact, iso-exact, through-exact}
+use Rattle.codec.specs.Codec.{Got, got, wrong, Codec, spellings, passed, both, mapped, chained, fieldSays, number, printable, text, letter, begins, tagged, _⊗_, viaIso, through}
+use Rattle.codec.specs.Places.{Place, alone, further, fieldOf, Spelt, FirstWrong}
+use Rattle.codec.proofs.Exact.{Exact, spelt-read, Codes, fine, first-zero, zero-first, number-exact, text-exact, letter-exact, tagged-exact, ⊗-exact, iso-exact, through-exact}
+use Rattle.codec.proofs.Spellings.{each-in, in-each}
 use Rattle.codec.proofs.Texts.{spaces-fine}
 use Rattle.codec.proofs.Places.{among-left, among-right, further-on, wrong-counted}
 
@@ -26,7 +29,7 @@ pub record Blames {A : Type 0} (c : Codec A) (n : ℕ) (places : List Place) : T
   pub some : (a : A) × (c .lowest a ≡ 0)
   -- no field stands past the contents
   pub within : (s : List ℕ) (j : ℕ) → fieldOf places j s ≡ fieldOf places j (take (c .width) s)
-  pub blames : (s : List ℕ) (i : ℕ) → length s ≡ c .width → c .parse s ≡ wrong i → (k : ℕ) × (i ≡ n + k) × FirstWrong (c .lowest) (c .print) places s k
+  pub blames : (s : List ℕ) (i : ℕ) → length s ≡ c .width → c .parse s ≡ wrong i → (k : ℕ) × (i ≡ n + k) × FirstWrong (c .lowest) (spellings c) places s k
 
 -- ---- a field alone
 
@@ -113,11 +116,11 @@ pub ⊗-alone : {A B : Type 0} (i : ℕ) (c : Codec A) (d : Codec B) → Alone i
   says = λ s j e. both-wrong (c .parse (take (c .width) s)) (d .parse (drop (c .width) s)) j e (λ w. u .says _ j w) (λ a p w. v .says _ j w);
 }
 
-pub through-alone : {A B : Type 0} (i : ℕ) (ok : B → Bool) (enc : B → A) (test : A → Bool) (value : A → B) (c : Codec A) →
-    Codes c ok enc (λ a. passed (test a) (suc i) (value a)) → (b : B) → ok b ≡ true → Alone (suc i) c →
-    Alone (suc i) (through (suc i) ok enc (λ a. passed (test a) (suc i) (value a)) c)
-through-alone i ok enc test value c k b h u = record {
-  exact = through-exact i ok enc _ c k (u .exact);
+pub through-alone : {A B : Type 0} (i : ℕ) (ok : B → Bool) (enc : B → A) (more : B → List A) (test : A → Bool) (value : A → B) (c : Codec A) →
+    Codes c ok enc more (λ a. passed (test a) (suc i) (value a)) → (b : B) → ok b ≡ true → Alone (suc i) c →
+    Alone (suc i) (through (suc i) ok enc more (λ a. passed (test a) (suc i) (value a)) c)
+through-alone i ok enc more test value c k b h u = record {
+  exact = through-exact i ok enc more _ c k (u .exact);
   some = (b, fine (ok b) (suc i) h);
   says = λ s j e. chained-wrong _ (c .parse s) (suc i) (u .says s) (λ a n. passed-wrong (test a) (suc i) (value a) n) j e;
 }
@@ -137,12 +140,13 @@ module _ {A : Type 0} (c : Codec A) (n : ℕ) (u : Alone (n + 1) c) where
   none-before s t zero h = refl
   none-before s t (suc j) h = absurd (omega arith)
 
-  -- bytes that a writer writes are read
-  only-unsent : (s : List ℕ) (i : ℕ) → length s ≡ c .width → c .parse s ≡ wrong i → (a : A) → c .lowest a ≡ 0 → fieldOf only 1 s ≡ fieldOf only 1 (c .print a) → ⊥
+  -- bytes that spell a sendable value are read
+  only-unspelt : (s : List ℕ) (i : ℕ) → length s ≡ c .width → c .parse s ≡ wrong i → (t : List ℕ) → Spelt (c .lowest) (spellings c) t → fieldOf only 1 s ≡ fieldOf only 1 t → ⊥
   unfolding fieldOf
-  only-unsent s i l e a h t =
-      let p : s ≡ c .print a = sym (take-all (c .width) s (omega arith)) ∙ t ∙ take-all (c .width) (c .print a) (omega (arith, u .exact .long a h)) in
-      let q : wrong i ≡ got a = sym e ∙ ap (c .parse) p ∙ u .exact .back a h in
+  only-unspelt s i l e t (a, h, k) same =
+      let r = spelt-read (u .exact) a t h k in
+      let p : s ≡ t = sym (take-all (c .width) s (omega arith)) ∙ same ∙ take-all (c .width) t (omega (arith, r .0)) in
+      let q : wrong i ≡ got a = sym e ∙ ap (c .parse) p ∙ r .1 in
       never (cc)
 
   pub alone-blames : Blames c n only
@@ -152,7 +156,11 @@ module _ {A : Type 0} (c : Codec A) (n : ℕ) (u : Alone (n + 1) c) where
         exact = u .exact;
         some = a;
         within = only-within;
-        blames = λ s i l e. (1, u .says s i e, record { before = (a .0, a .1, none-before s (c .print (a .0))); unsent = only-unsent s i l e });
+        blames = λ s i l e. (
+          1,
+          u .says s i e,
+          record { before = (c .print (a .0), (a .0, a .1, inl refl), none-before s (c .print (a .0))); unspelt = only-unspelt s i l e },
+        );
       }
 
 -- ---- one after the other
@@ -184,54 +192,76 @@ module _ {A B : Type 0} (c : Codec A) (d : Codec B) (n : ℕ) (ps qs : List Plac
       on-right s j k h e ∙ v .within (drop (c .width) s) k ∙ ap (fieldOf qs k) (sym (drop-of-take (c .width) (d .width) (c .width + d .width) s refl))
       ∙ sym (on-right t j k h e))
 
-  -- the same of what is written
-  module _ (p : A × B) (h : c .lowest (p .0) ≡ 0) where
-    printed-left : (j : ℕ) → j ≤ length ps → fieldOf places j ((c ⊗ d) .print p) ≡ fieldOf ps j (c .print (p .0))
-    printed-left j k = on-left ((c ⊗ d) .print p) j k ∙ ap (fieldOf ps j) (take-at (c .print (p .0)) (d .print (p .1)) (c .width) (u .exact .long (p .0) h))
+  -- the same of two spellings
+  module _ (s t : List ℕ) (l : length s ≡ c .width) where
+    spelt-left : (j : ℕ) → j ≤ length ps → fieldOf places j (s ++ t) ≡ fieldOf ps j s
+    spelt-left j k = on-left (s ++ t) j k ∙ ap (fieldOf ps j) (take-at s t (c .width) l)
 
-    printed-right : (j k : ℕ) → 0 < k → j ≡ length ps + k → fieldOf places j ((c ⊗ d) .print p) ≡ fieldOf qs k (d .print (p .1))
-    printed-right j k m e = on-right ((c ⊗ d) .print p) j k m e ∙ ap (fieldOf qs k) (drop-at (c .print (p .0)) (d .print (p .1)) (c .width) (u .exact .long (p .0) h))
+    spelt-right : (j k : ℕ) → 0 < k → j ≡ length ps + k → fieldOf places j (s ++ t) ≡ fieldOf qs k t
+    spelt-right j k m e = on-right (s ++ t) j k m e ∙ ap (fieldOf qs k) (drop-at s t (c .width) l)
+
+  -- both spelt, one after the other
+  spelt-both : {s t : List ℕ} → Spelt (c .lowest) (spellings c) s → Spelt (d .lowest) (spellings d) t → Spelt ((c ⊗ d) .lowest) (spellings (c ⊗ d)) (s ++ t)
+  spelt-both {s} {t} (a, g, k) (b, h, m) = ((a, b), zero-first _ _ g h, each-in (spellings c a) (spellings d b) s t k m)
+
+  spelt-long : {s : List ℕ} → Spelt (c .lowest) (spellings c) s → length s ≡ c .width
+  spelt-long {s} (a, h, k) = spelt-read (u .exact) a s h k .0
+
+  -- and nothing else is spelt
+  in-two : {C : Type 0} (r : List ℕ) → Spelt ((c ⊗ d) .lowest) (spellings (c ⊗ d)) r →
+      ((s t : List ℕ) → Spelt (c .lowest) (spellings c) s → Spelt (d .lowest) (spellings d) t → r ≡ s ++ t → C) → C
+  in-two r (p, h, k) f =
+      let z = first-zero (c .lowest (p .0)) (d .lowest (p .1)) h in
+      let m = in-each (spellings c (p .0)) (spellings d (p .1)) k in
+      f (m .0) (m .1) (p .0, z .0, m .2) (p .1, z .1, m .3) (m .4)
+
+  -- something to send
+  sent-right : (t : List ℕ) × Spelt (d .lowest) (spellings d) t
+  sent-right = let b = v .some in (d .print (b .0), (b .0, b .1, inl refl))
 
   module _ (s : List ℕ) where
     -- a field of the first is wrong, and so are no others before it
-    wrong-left : (k : ℕ) → FirstWrong (c .lowest) (c .print) ps (take (c .width) s) k → FirstWrong ((c ⊗ d) .lowest) ((c ⊗ d) .print) places s k
+    wrong-left : (k : ℕ) → FirstWrong (c .lowest) (spellings c) ps (take (c .width) s) k → FirstWrong ((c ⊗ d) .lowest) (spellings (c ⊗ d)) places s k
     wrong-left k f =
         let a = f .before in
-        let b = v .some in
+        let b = sent-right in
         let m = wrong-counted k f .1 in
         record {
           before = (
-            (a .0, b .0),
-            zero-first _ _ (a .1) (b .1),
-            λ j h. on-left s j (omega arith) ∙ a .2 j h ∙ sym (printed-left (a .0, b .0) (a .1) j (omega arith)),
+            a .0 ++ b .0,
+            spelt-both (a .1) (b .1),
+            λ j h. on-left s j (omega arith) ∙ a .2 j h ∙ sym (spelt-left (a .0) (b .0) (spelt-long (a .1)) j (omega arith)),
           );
-          unsent = λ p h e.
-              let z = first-zero (c .lowest (p .0)) (d .lowest (p .1)) h in
-              f .unsent (p .0) (z .0) (sym (on-left s k m) ∙ e ∙ printed-left p (z .0) k m);
+          unspelt = λ r x e.
+              in-two r x
+              (λ t w g h q. f .unspelt t g (sym (on-left s k m) ∙ e ∙ ap (fieldOf places k) q ∙ spelt-left t w (spelt-long g) k m));
         }
 
-    -- the first's are all written, and a field of the second is wrong
-    wrong-right : (a : A) → c .lowest a ≡ 0 → take (c .width) s ≡ c .print a → (k : ℕ) → FirstWrong (d .lowest) (d .print) qs (drop (c .width) s) k →
-        FirstWrong ((c ⊗ d) .lowest) ((c ⊗ d) .print) places s (length ps + k)
-    wrong-right a r t k f =
+    -- the first's are all spelt, and a field of the second is wrong
+    wrong-right : Spelt (c .lowest) (spellings c) (take (c .width) s) → (k : ℕ) → FirstWrong (d .lowest) (spellings d) qs (drop (c .width) s) k →
+        FirstWrong ((c ⊗ d) .lowest) (spellings (c ⊗ d)) places s (length ps + k)
+    wrong-right a k f =
+        let first : List ℕ = take (c .width) s in
         let b = f .before in
         let m = wrong-counted k f .0 in
         record {
           before = (
-            (a, b .0),
-            zero-first _ _ r (b .1),
+            first ++ b .0,
+            spelt-both a (b .1),
             λ j h.
                 either j
-                (λ l. on-left s j l ∙ ap (fieldOf ps j) t ∙ sym (printed-left (a, b .0) r j l))
-                (λ i l e. on-right s j i l e ∙ b .2 i (omega arith) ∙ sym (printed-right (a, b .0) r j i l e)),
+                (λ l. on-left s j l ∙ sym (spelt-left first (b .0) (spelt-long a) j l))
+                (λ i l e. on-right s j i l e ∙ b .2 i (omega arith) ∙ sym (spelt-right first (b .0) (spelt-long a) j i l e)),
           );
-          unsent = λ p h e.
-              let z = first-zero (c .lowest (p .0)) (d .lowest (p .1)) h in
-              f .unsent (p .1) (z .1) (sym (on-right s (length ps + k) k m refl) ∙ e ∙ printed-right p (z .0) (length ps + k) k m refl);
+          unspelt = λ r x e.
+              in-two r x
+              (λ t w g h q.
+              f .unspelt w h
+              (sym (on-right s (length ps + k) k m refl) ∙ e ∙ ap (fieldOf places (length ps + k)) q ∙ spelt-right t w (spelt-long g) (length ps + k) k m refl));
         }
 
     both-blames : (i : ℕ) → length s ≡ c .width + d .width → (c ⊗ d) .parse s ≡ wrong i →
-        (k : ℕ) × (i ≡ n + k) × FirstWrong ((c ⊗ d) .lowest) ((c ⊗ d) .print) places s k
+        (k : ℕ) × (i ≡ n + k) × FirstWrong ((c ⊗ d) .lowest) (spellings (c ⊗ d)) places s k
     both-blames i l e =
         let left : length (take (c .width) s) ≡ c .width = simp length-take (omega arith) in
         both-wrong (c .parse (take (c .width) s)) (d .parse (drop (c .width) s)) i e
@@ -239,7 +269,7 @@ module _ {A B : Type 0} (c : Codec A) (d : Codec B) (n : ℕ) (ps qs : List Plac
         (λ a g w.
         let t = u .exact .sound (take (c .width) s) a left g in
         let b = v .blames (drop (c .width) s) i (simp length-drop (omega arith)) w in
-        (length ps + b .0, omega (arith, b .1), wrong-right a (t .0) (t .1) (b .0) (b .2)))
+        (length ps + b .0, omega (arith, b .1), wrong-right (a, t .0, t .1) (b .0) (b .2)))
 
   pub ⊗-blames : Blames (c ⊗ d) n places
   ⊗-blames = record {
@@ -252,13 +282,14 @@ module _ {A B : Type 0} (c : Codec A) (d : Codec B) (n : ℕ) (ps qs : List Plac
 -- ---- the same bytes for another type of value
 
 module _ {A B : Type 0} (f : A → B) (g : B → A) (c : Codec A) (gf : (a : A) → g (f a) ≡ a) (fg : (b : B) → f (g b) ≡ b) (n : ℕ) (ps : List Place) (u : Blames c n ps) where
-  iso-wrong : (s : List ℕ) (k : ℕ) → FirstWrong (c .lowest) (c .print) ps s k → FirstWrong (viaIso f g c .lowest) (viaIso f g c .print) ps s k
+  iso-wrong : (s : List ℕ) (k : ℕ) → FirstWrong (c .lowest) (spellings c) ps s k → FirstWrong (viaIso f g c .lowest) (spellings (viaIso f g c)) ps s k
   iso-wrong s k w =
-      let a = w .before in
-      let same : g (f (a .0)) ≡ a .0 = gf (a .0) in
+      let t = w .before in
+      let a = t .1 in
+      let same : a .0 ≡ g (f (a .0)) = sym (gf (a .0)) in
       record {
-        before = (f (a .0), ap (c .lowest) same ∙ a .1, λ j h. a .2 j h ∙ ap (λ (z : A). fieldOf ps j (c .print z)) (sym same));
-        unsent = λ b h e. w .unsent (g b) h e;
+        before = (t .0, (f (a .0), ap (c .lowest) (sym same) ∙ a .1, subst (λ (z : A). t .0 ∈ spellings c z) same (a .2)), t .2);
+        unspelt = λ r b e. w .unspelt r (g (b .0), b .1, b .2) e;
       }
 
   pub iso-blames : Blames (viaIso f g c) n ps

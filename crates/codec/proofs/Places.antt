@@ -8,7 +8,7 @@ use lib.Dec.{leb}
 use lib.ListN.{length, take, drop}
 use lib.Seq.{drop-drop}
 use Rattle.laws.proofs.Tests.{told}
-use Rattle.codec.specs.Places.{Place, further, fieldOf, FirstWrong}
+use Rattle.codec.specs.Places.{Place, further, fieldOf, Spelt, FirstWrong}
 
 -- ---- where a field stands
 
@@ -48,27 +48,27 @@ further-on n (p ∷ ps) (suc (suc i)) s = further-on n ps (suc i) s
 
 -- ---- the first wrong field
 
-module _ {A : Type 0} {rule : A → ℕ} {print : A → List ℕ} {places : List Place} {s : List ℕ} where
+module _ {A : Type 0} {rule : A → ℕ} {spellings : A → List (List ℕ)} {places : List Place} {s : List ℕ} where
   -- it is one of the fields
-  pub wrong-counted : (i : ℕ) → FirstWrong rule print places s i → (0 < i) × (i ≤ length places)
+  pub wrong-counted : (i : ℕ) → FirstWrong rule spellings places s i → (0 < i) × (i ≤ length places)
   wrong-counted zero f =
-      let a = f .before in
-      absurd (f .unsent (a .0) (a .1) (no-field-0 places s ∙ sym (no-field-0 places (print (a .0)))))
+      let t = f .before in
+      absurd (f .unspelt (t .0) (t .1) (no-field-0 places s ∙ sym (no-field-0 places (t .0))))
   wrong-counted (suc i) f =
-      let a = f .before in (
+      let t = f .before in (
         omega arith,
         told (leb (suc i) (length places))
             (λ y. leb-true _ _ y)
             (λ n.
             let h = leb-false (suc i) (length places) n in
-            absurd (f .unsent (a .0) (a .1) (no-field-past places (suc i) s h ∙ sym (no-field-past places (suc i) (print (a .0)) h)))),
+            absurd (f .unspelt (t .0) (t .1) (no-field-past places (suc i) s h ∙ sym (no-field-past places (suc i) (t .0) h)))),
       )
 
-  not-before : {i j : ℕ} → FirstWrong rule print places s i → FirstWrong rule print places s j → i < j → ⊥
-  not-before {i} f g h = let a = g .before in f .unsent (a .0) (a .1) (a .2 i h)
+  not-before : {i j : ℕ} → FirstWrong rule spellings places s i → FirstWrong rule spellings places s j → i < j → ⊥
+  not-before {i} f g h = let t = g .before in f .unspelt (t .0) (t .1) (t .2 i h)
 
   -- there is one
-  pub one-first-wrong : {i j : ℕ} → FirstWrong rule print places s i → FirstWrong rule print places s j → i ≡ j
+  pub one-first-wrong : {i j : ℕ} → FirstWrong rule spellings places s i → FirstWrong rule spellings places s j → i ≡ j
   one-first-wrong {i} {j} f g =
       told (leb i j)
       (λ y.
@@ -76,6 +76,6 @@ module _ {A : Type 0} {rule : A → ℕ} {print : A → List ℕ} {places : List
       told (leb j i) (λ z. let k = leb-true j i z in omega arith) (λ n. absurd (not-before f g (leb-false j i n))))
       (λ n. absurd (not-before g f (leb-false i j n)))
 
-  -- and none in sendable contents
-  pub none-wrong : {i : ℕ} (a : A) → rule a ≡ 0 → s ≡ print a → FirstWrong rule print places s i → ⊥
-  none-wrong {i} a h e f = f .unsent a h (ap (fieldOf places i) e)
+  -- and none in a spelling of sendable contents
+  pub none-wrong : {i : ℕ} → Spelt rule spellings s → FirstWrong rule spellings places s i → ⊥
+  none-wrong k f = f .unspelt s k refl

@@ -1,6 +1,6 @@
--- A field of a message: how many bytes it takes, which values may be sent, how one is written and what a reader finds.
+-- A field of a message: how many bytes it takes, which values may be sent, how one is written and else spelt, and what a reader finds.
 use Prim.Native.Nat.{ℕ, zero, suc, _+_}
-use mathlib.Core.List.{List, [], _∷_, _++_}
+use mathlib.Core.List.{List, [], _∷_, _++_, map}
 use mathlib.Core.Bool.{Bool, false, _&&_, cond}
 use lib.ListN.{length, take, drop, getD, replicate}
 use lib.Dec.{leb, eqb}
@@ -19,7 +19,23 @@ pub record Codec (A : Type 0) : Type 0 where
   -- the lowest field out of range, 0 where the value may be sent
   pub lowest : A → ℕ
   pub print : A → List ℕ
+  -- the bytes that are read as the value besides those that are written
+  pub also : A → List (List ℕ)
   pub parse : List ℕ → Got A
+
+-- how a value is spelt: as it is written, and as it is read besides
+abbrev pub spellings : {A : Type 0} → Codec A → A → List (List ℕ)
+spellings c a = c .print a ∷ c .also a
+
+-- the spellings of each of them
+abbrev pub allSpelt : {A : Type 0} → Codec A → List A → List (List ℕ)
+allSpelt c [] = []
+allSpelt c (a ∷ l) = spellings c a ++ allSpelt c l
+
+-- each of the first before each of the second
+abbrev pub each : List (List ℕ) → List (List ℕ) → List (List ℕ)
+each [] ts = []
+each (s ∷ ss) ts = map (λ t. s ++ t) ts ++ each ss ts
 
 -- the value, where the test holds; else field i is wrong
 unfoldable pub passed : {A : Type 0} → Bool → ℕ → A → Got A
@@ -58,6 +74,7 @@ number i b off w top = record {
   width = w;
   lowest = λ n. failing (leb n top) i;
   print = λ n. digits b off w n;
+  also = λ n. [];
   parse = λ s. fieldSays i (readField b off top s);
 }
 
@@ -75,6 +92,7 @@ text i w = record {
   width = w;
   lowest = λ s. failing (textOk w s) i;
   print = λ s. s;
+  also = λ s. [];
   parse = λ s. passed (printable s) i s;
 }
 
@@ -92,6 +110,7 @@ letter i ok = record {
   width = 1;
   lowest = λ x. failing (ok x) i;
   print = λ x. x ∷ [];
+  also = λ x. [];
   parse = λ s. passed (ok (getD s 0 0)) i (getD s 0 0);
 }
 
@@ -106,16 +125,18 @@ tagged t i c = record {
   width = suc (c .width);
   lowest = c .lowest;
   print = λ a. t ∷ c .print a;
+  also = λ a. map (λ s. t ∷ s) (c .also a);
   parse = λ s. cond (begins t s) (c .parse (drop 1 s)) (wrong i);
 }
 
--- one after the other
+-- one after the other: spelt otherwise where either is, or both
 infixr 60 _⊗_
 abbrev pub _⊗_ : {A B : Type 0} → Codec A → Codec B → Codec (A × B)
 c ⊗ d = record {
   width = c .width + d .width;
   lowest = λ p. first (c .lowest (p .0)) (d .lowest (p .1));
   print = λ p. c .print (p .0) ++ d .print (p .1);
+  also = λ p. map (λ t. c .print (p .0) ++ t) (d .also (p .1)) ++ each (c .also (p .0)) (spellings d (p .1));
   parse = λ s. both (c .parse (take (c .width) s)) (d .parse (drop (c .width) s));
 }
 
@@ -125,15 +146,17 @@ viaIso f g c = record {
   width = c .width;
   lowest = λ b. c .lowest (g b);
   print = λ b. c .print (g b);
+  also = λ b. c .also (g b);
   parse = λ s. mapped f (c .parse s);
 }
 
--- field i, a value that is sent as its code: enc gives the code, dec takes it back or refuses
-abbrev pub through : {A B : Type 0} → ℕ → (B → Bool) → (B → A) → (A → Got B) → Codec A → Codec B
-through i ok enc dec c = record {
+-- field i, a value that is sent as its code: enc gives the code, dec takes it back or refuses, and more are the other codes that it takes for the value
+abbrev pub through : {A B : Type 0} → ℕ → (B → Bool) → (B → A) → (B → List A) → (A → Got B) → Codec A → Codec B
+through i ok enc more dec c = record {
   width = c .width;
   lowest = λ b. failing (ok b) i;
   print = λ b. c .print (enc b);
+  also = λ b. c .also (enc b) ++ allSpelt c (more b);
   parse = λ s. chained dec (c .parse s);
 }
 

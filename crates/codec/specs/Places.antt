@@ -4,6 +4,7 @@ use mathlib.Core.List.{List, [], _∷_}
 use mathlib.Core.Logic.{_≢_}
 use mathlib.Core.Path.{_≡_}
 use lib.ListN.{take, drop}
+use Rattle.laws.specs.Member.{_∈_}
 
 -- a field's place: so many bytes from here on, and what of them is the field's
 pub record Place : Type 0 where
@@ -35,7 +36,11 @@ fieldOf (p ∷ ps) zero s = []
 fieldOf (p ∷ ps) (suc zero) s = inPlace p s
 fieldOf (p ∷ ps) (suc (suc i)) s = fieldOf ps (suc i) s
 
--- field i is the first wrong one of s: the fields before it are some sendable contents', and it is no sendable contents'
-pub record FirstWrong {A : Type 0} (rule : A → ℕ) (print : A → List ℕ) (places : List Place) (s : List ℕ) (i : ℕ) : Type 0 where
-  pub before : (a : A) × (rule a ≡ 0) × ((j : ℕ) → j < i → fieldOf places j s ≡ fieldOf places j (print a))
-  pub unsent : (a : A) → rule a ≡ 0 → fieldOf places i s ≢ fieldOf places i (print a)
+-- bytes that spell sendable contents
+abbrev pub Spelt : {A : Type 0} → (A → ℕ) → (A → List (List ℕ)) → List ℕ → Type 0
+Spelt {A} rule spellings t = (a : A) × (rule a ≡ 0) × (t ∈ spellings a)
+
+-- field i is the first wrong one of s: the fields before it stand so in a spelling of sendable contents, and it stands so in none
+pub record FirstWrong {A : Type 0} (rule : A → ℕ) (spellings : A → List (List ℕ)) (places : List Place) (s : List ℕ) (i : ℕ) : Type 0 where
+  pub before : (t : List ℕ) × Spelt rule spellings t × ((j : ℕ) → j < i → fieldOf places j s ≡ fieldOf places j t)
+  pub unspelt : (t : List ℕ) → Spelt rule spellings t → fieldOf places i s ≢ fieldOf places i t

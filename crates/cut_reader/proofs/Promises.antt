@@ -8,14 +8,15 @@ use native.Mathlib.Omega.{arith}
 use borrow.Author.Tests.{leb-true, leb-false}
 use lib.Dec.{leb}
 use lib.ListN.{length}
+use Rattle.laws.specs.Member.{_∈_}
 use Rattle.laws.proofs.Tests.{told, cond-yes, cond-no, never}
 use Rattle.refusal.specs.Answer.{Answer, accepted, refused}
 use Rattle.refusal.specs.declared.Refusal.{Refusal}
 use Rattle.refusal.specs.declared.Refusal.the-variants.{End, TooLong}
-use Rattle.codec.specs.Codec.{Codec}
+use Rattle.codec.specs.Codec.{Codec, spellings}
 use Rattle.codec.specs.Places.{Place}
 use Rattle.frame.specs.Faithful.{Faithful}
-use Rattle.frame.specs.Message.{messageOf, readOf}
+use Rattle.frame.specs.Message.{messagesOf, readOf}
 use Rattle.frame.specs.Refuses.{ReadWhen, Refuses}
 use Rattle.demand2.proofs.Proved.{demand2}
 use Rattle.cutter.specs.Cutter.{cutterLength, ended, cutOf, thenRead}
@@ -32,15 +33,15 @@ module _ {A : Type 0} (form : Codec A) (rule : A → ℕ) (low : ℕ → Refusal
     read = readOf form checksum
 
     abbrev Case : Refusal → Type 0
-    Case r = ((cutterLength < length m) × (r ≡ TooLong)) ⊎ ((length m ≤ cutterLength) × ReadWhen rule (form .print) places plain checksum m r)
+    Case r = ((cutterLength < length m) × (r ≡ TooLong)) ⊎ ((length m ≤ cutterLength) × ReadWhen rule (spellings form) places plain checksum m r)
 
-    -- what is accepted is no longer than the writer's message
-    fits : (a : A) → rule a ≡ 0 → m ≡ messageOf form checksum a → length m ≤ cutterLength
-    fits a z e =
-        let l = ap length e ∙ faithful .long checksum a z in
-        told checksum (λ y. let k = cond-yes (plain + 2) plain y in omega arith) (λ n. let k = cond-no (plain + 2) plain n in omega arith)
+    -- what is accepted is as long as the writer's message
+    fits : (a : A) → rule a ≡ 0 → m ∈ messagesOf form checksum a → length m ≤ cutterLength
+    fits a z k =
+        let l = faithful .long checksum m a z k in
+        told checksum (λ y. let c = cond-yes (plain + 2) plain y in omega arith) (λ n. let c = cond-no (plain + 2) plain n in omega arith)
 
-    accepts : (a : A) → judged read m ≡ accepted a → (rule a ≡ 0) × (m ≡ messageOf form checksum a)
+    accepts : (a : A) → judged read m ≡ accepted a → (rule a ≡ 0) × (m ∈ messagesOf form checksum a)
     accepts a e =
         told (leb (length m) cutterLength)
         (λ y. faithful .exactly checksum m a .0 (sym (judged-fits read m (leb-true _ _ y)) ∙ e))

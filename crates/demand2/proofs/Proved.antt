@@ -17,12 +17,13 @@ use Rattle.record.proofs.Ranges.{record-by-table}
 use Rattle.fixed.specs.Fixed.{fixedLowest}
 use Rattle.fixed.specs.Form.{fixedForm, fixedLength}
 use Rattle.fixed.specs.Places.{fixedPlaces}
-use Rattle.fixed.proofs.Exact.{fixed-form-exact, fixed-form-blames, fixed-form-width, fixed-lowest}
+use Rattle.fixed.proofs.Exact.{fixed-form-exact, fixed-form-blames, fixed-once, fixed-form-width, fixed-lowest}
 use Rattle.fixed.proofs.Ranges.{fixed-by-table, settings-by-table}
 use Rattle.units.specs.Units.{isUnit, inRange, numberIn, Converts, conversion}
 use Rattle.units.proofs.Nearest.{converts, alike-unchanged}
 use Rattle.units.proofs.Ranges.{sendable-in-either-unit}
 use Rattle.demand2.specs.Demand2.{Demand2}
+use Rattle.demand2.proofs.MinusZero.{text-zero, packed-zero}
 use Rattle.demand2.proofs.Units.{units-refuse}
 
 unless-is : {A : Type 0} (ok : Bool) (r : Refusal) (k : Answer A) (a : A) → unless ok r k ≡ accepted a → (ok ≡ true) × (k ≡ accepted a)
@@ -46,6 +47,9 @@ demand2 = record {
   text = faithful textForm text-form-exact recordLowest Field textLength text-lowest text-form-width;
   packed = faithful packedForm packed-form-exact recordLowest Field packedLength packed-lowest packed-form-width;
   fixed = faithful fixedForm fixed-form-exact fixedLowest Setting fixedLength fixed-lowest fixed-form-width;
+  text-zero = text-zero;
+  packed-zero = packed-zero;
+  fixed-once = fixed-once;
   text-refuses = refuses textForm recordLowest Field textLength textPlaces text-form-blames text-lowest text-form-width;
   packed-refuses = refuses packedForm recordLowest Field packedLength packedPlaces packed-form-blames packed-lowest packed-form-width;
   fixed-refuses = refuses fixedForm fixedLowest Setting fixedLength fixedPlaces fixed-form-blames fixed-lowest fixed-form-width;

@@ -1,8 +1,9 @@
 -- Demand 2: "Each reply, text record, packed record, checksum and unit conversion is exactly what the Cooke documents and document 01 define. A reader
--- accepts exactly the messages the writer writes for sendable contents, and gives those contents back." Statements only.
+-- accepts exactly the messages the writer writes for sendable contents, and gives those contents back." [5] amends it: "From now on readers accept the
+-- writers' messages and these two spellings." Statements only.
 use Prim.Native.Nat.{ℕ}
 use mathlib.Core.Bool.{true}
-use mathlib.Core.List.{List}
+use mathlib.Core.List.{List, []}
 use mathlib.Core.Path.{_≡_}
 use lib.IntN.{ℤ}
 use Rattle.refusal.specs.Answer.{accepted}
@@ -12,6 +13,7 @@ use Rattle.codec.specs.Codec.{textOk}
 use Rattle.codec.specs.Ranges.{LowestBy}
 use Rattle.frame.specs.Faithful.{Faithful}
 use Rattle.frame.specs.Refuses.{Refuses}
+use Rattle.pupil.specs.Pupil.{plusText, minusText, plusPacked, minusPacked}
 use Rattle.record.specs.Record.{recordLowest}
 use Rattle.record.specs.Forms.{textForm, packedForm}
 use Rattle.record.specs.Places.{textPlaces, packedPlaces}
@@ -19,11 +21,13 @@ use Rattle.record.specs.Ranges.{recordRanges}
 use Rattle.fixed.specs.Fixed.{fixedLowest, settingsLowest}
 use Rattle.fixed.specs.Form.{fixedForm}
 use Rattle.fixed.specs.Places.{fixedPlaces}
+use Rattle.fixed.specs.declared.Fixed.{Fixed}
 use Rattle.fixed.specs.Ranges.{fixedRanges, settingsRanges}
 use Rattle.units.specs.Units.{isUnit, Converts, conversion}
 use Rattle.units.specs.Measurement.{measurementVerdict, recordIn}
 use Rattle.units.specs.Refuses.{UnitsRefuse}
 use Rattle.units.specs.declared.Measurement.{Measurement}
+use Rattle.demand2.specs.MinusZero.{MinusZero}
 
 pub record Demand2 : Type 0 where
   -- "lowest field", "lowest item": the rules of what may be sent and set are document 01's tables of ranges
@@ -35,6 +39,10 @@ pub record Demand2 : Type 0 where
   pub packed : Faithful packedForm recordLowest Field 41
   -- the fixed data, 67 or 69
   pub fixed : Faithful fixedForm fixedLowest Setting 67
+  -- [5]: minus zero is read as 0 in either form of a record, and comes out as plus zero; the N reader takes the writer's messages only
+  pub text-zero : MinusZero textForm textPlaces 54 plusText minusText
+  pub packed-zero : MinusZero packedForm packedPlaces 25 plusPacked minusPacked
+  pub fixed-once : (f : Fixed) → fixedForm .also f ≡ []
   -- "No number is given outside its case; where no case holds, the entry does its work": 3, 4, 5, 6 for the readers, 1 or 8 and then 2 for the writers
   pub text-refuses : Refuses textForm recordLowest Field 76 textPlaces
   pub packed-refuses : Refuses packedForm recordLowest Field 41 packedPlaces

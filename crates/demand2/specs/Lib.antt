@@ -1,1 +1,2 @@
+pub mod MinusZero
 pub mod Demand2

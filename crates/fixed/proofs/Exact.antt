@@ -43,6 +43,11 @@ fixed-form-blames =
 pub fixed-form-exact : Exact fixedForm
 fixed-form-exact = fixed-form-blames .exact
 
+-- it is spelt in one way
+pub fixed-once : (f : Fixed) → fixedForm .also f ≡ []
+unfolding fixedForm serial owner lensItems version
+fixed-once f = refl
+
 -- sendable is: no item out of range
 pub fixed-lowest : (f : Fixed) → fixedForm .lowest f ≡ fixedLowest f
 unfolding fixedForm serial owner lensItems version fixedLowest lensLowest

@@ -1,24 +1,26 @@
--- A reader accepts exactly the messages that the writer writes of sendable contents: once, for every exact codec. Assumes nothing.
+-- A reader accepts exactly the spellings of sendable contents, each under its own checksum: once, for every exact codec. Assumes nothing.
 use Prim.Native.Nat.{ℕ, _+_, _-_, _≤_, _<_}
-use mathlib.Core.List.{List, [], _∷_, _++_}
+use mathlib.Core.List.{List, [], _∷_, _++_, map}
 use mathlib.Core.Bool.{Bool, true, false}
 use mathlib.Core.Path.{_≡_, refl, sym, ap, ap₂, _∙_, subst}
-use mathlib.Core.Logic.{_↔_}
+use mathlib.Core.Logic.{_↔_, inl}
 use native.Mathlib.Nat.{add-zero}
 use native.Mathlib.Omega.{arith}
 use borrow.Author.Tests.{eqb-true, eq-eqb}
 use lib.ListN.{length, take, drop, getD, length-append, length-take, length-drop, take-append-drop}
 use lib.Seq.{take-at, getD-drop, getD-append-add, drop-drop}
 use lib.Dec.{eqb}
+use Rattle.laws.specs.Member.{_∈_}
+use Rattle.laws.proofs.MemberLaws.{as-member, the-only, map-in, in-map}
 use Rattle.laws.proofs.Tests.{and-left, and-right, and-both, told, never}
 use Rattle.laws.proofs.ListLaws.{two-is}
 use Rattle.refusal.specs.Answer.{Answer, accepted}
 use Rattle.refusal.specs.declared.Verdict.{Verdict}
 use Rattle.refusal.specs.declared.Verdict.the-variants.{Done, Refused}
-use Rattle.codec.specs.Codec.{Got, got, wrong, Codec}
-use Rattle.codec.proofs.Exact.{Exact}
+use Rattle.codec.specs.Codec.{Got, got, wrong, Codec, spellings}
+use Rattle.codec.proofs.Exact.{Exact, spelt-read}
 use Rattle.frame.specs.Frame.{sumOf, ending, endingWidth, framed, isEnded, sums, opening}
-use Rattle.frame.specs.Message.{found, afterwards, readOf, messageOf}
+use Rattle.frame.specs.Message.{found, afterwards, readOf, messageOf, messagesOf}
 
 -- ---- what the small words say
 
@@ -146,31 +148,46 @@ framed-opens checksum w b l = record {
 -- ---- the theorem
 
 module _ {A : Type 0} (c : Codec A) (x : Exact c) (checksum : Bool) where
-  -- reading what was written gives the contents back
-  pub reads-written : (a : A) → c .lowest a ≡ 0 → readOf c checksum (messageOf c checksum a) ≡ accepted a
+  -- reading a spelling of sendable contents gives them back
+  reads-spelt : (a : A) (s : List ℕ) → c .lowest a ≡ 0 → s ∈ spellings c a → readOf c checksum (framed checksum s) ≡ accepted a
   unfolding readOf afterwards found
-  reads-written a h =
-      let b = c .print a in
-      let l = x .long a h in
-      rw (opened checksum (c .width) (framed checksum b) (framed-opens checksum (c .width) b l), take-at b (ending checksum b) (c .width) l, x .back a h)
+  reads-spelt a s h k =
+      let r = spelt-read x a s h k in
+      rw (opened checksum (c .width) (framed checksum s) (framed-opens checksum (c .width) s (r .0)), take-at s (ending checksum s) (c .width) (r .0), r .1)
 
-  -- what is read was written
-  pub reads-only : (m : List ℕ) (a : A) → readOf c checksum m ≡ accepted a → (c .lowest a ≡ 0) × (m ≡ messageOf c checksum a)
+  -- so does reading what was written
+  pub reads-written : (a : A) → c .lowest a ≡ 0 → readOf c checksum (messageOf c checksum a) ≡ accepted a
+  reads-written a h = reads-spelt a (c .print a) h (inl refl)
+
+  -- what is read is a spelling
+  pub reads-only : (m : List ℕ) (a : A) → readOf c checksum m ≡ accepted a → (c .lowest a ≡ 0) × (m ∈ messagesOf c checksum a)
   unfolding readOf
   reads-only m a e =
       let p = afterwards-is (opening checksum (c .width) m) _ a e in
       let o = opens checksum (c .width) m (p .0) in
-      let s = x .sound (take (c .width) m) a (simp length-take (omega (arith, o .long))) (found-is (c .parse (take (c .width) m)) a (p .1)) in (
+      let t = take (c .width) m in
+      let s = x .sound t a (simp length-take (omega (arith, o .long))) (found-is (c .parse t) a (p .1)) in (
         s .0,
-        sym (take-append-drop (c .width) m) ∙ ap₂ _++_ (s .1) (ending-is checksum (c .width) m o ∙ ap (ending checksum) (s .1)),
+        as-member (messagesOf c checksum a) (sym (take-append-drop (c .width) m) ∙ ap (λ (r : List ℕ). t ++ r) (ending-is checksum (c .width) m o))
+            (map-in (framed checksum) (spellings c a) t (s .1)),
       )
 
-  -- accepted with these contents exactly where they are sendable and the message is the writer's
-  pub exactly : (m : List ℕ) (a : A) → (readOf c checksum m ≡ accepted a) ↔ ((c .lowest a ≡ 0) × (m ≡ messageOf c checksum a))
-  exactly m a = (reads-only m a, λ h. ap (readOf c checksum) (h .1) ∙ reads-written a (h .0))
+  -- accepted with these contents exactly where they are sendable and the message is one of their spellings, under its own checksum
+  pub exactly : (m : List ℕ) (a : A) → (readOf c checksum m ≡ accepted a) ↔ ((c .lowest a ≡ 0) × (m ∈ messagesOf c checksum a))
+  exactly m a = (reads-only m a, λ h. let s = in-map (framed checksum) (spellings c a) (h .1) in ap (readOf c checksum) (s .2) ∙ reads-spelt a (s .0) (h .0) (s .1))
 
   -- no two contents share a message
-  pub one-contents : (a b : A) → c .lowest a ≡ 0 → c .lowest b ≡ 0 → messageOf c checksum a ≡ messageOf c checksum b → a ≡ b
-  one-contents a b h k e =
-      let p : accepted a ≡ accepted b = sym (reads-written a h) ∙ ap (readOf c checksum) e ∙ reads-written b k in
+  pub one-contents : (m : List ℕ) (a b : A) → c .lowest a ≡ 0 → c .lowest b ≡ 0 → m ∈ messagesOf c checksum a → m ∈ messagesOf c checksum b → a ≡ b
+  one-contents m a b h k e f =
+      let p : accepted a ≡ accepted b = sym (exactly m a .1 (h, e)) ∙ exactly m b .1 (k, f) in
       cc
+
+  -- contents that are spelt in one way have the writer's message only
+  pub one-message : (m : List ℕ) (a : A) → c .also a ≡ [] → m ∈ messagesOf c checksum a → m ≡ messageOf c checksum a
+  one-message m a e k = the-only (subst (λ (l : List (List ℕ)). m ∈ map (framed checksum) (c .print a ∷ l)) e k)
+
+  -- and each spelling has the message's length
+  pub messages-long : (m : List ℕ) (a : A) → c .lowest a ≡ 0 → m ∈ messagesOf c checksum a → length m ≡ c .width + endingWidth checksum
+  messages-long m a h k =
+      let s = in-map (framed checksum) (spellings c a) k in
+      ap length (s .2) ∙ framed-long checksum (c .width) (s .0) (spelt-read x a (s .0) h (s .1) .0)

@@ -16,7 +16,7 @@ use Rattle.refusal.specs.Answer.{Answer, accepted, refused, unless}
 use Rattle.refusal.specs.declared.Refusal.{Refusal}
 use Rattle.refusal.specs.declared.Refusal.the-variants.{Field, Room, Length, End, Checksum, Contents, Dropped, Setting, TooLong, Form, State}
 use Rattle.refusal.specs.declared.Verdict.the-variants.{Done, Refused}
-use Rattle.codec.specs.Codec.{Got, got, wrong, Codec}
+use Rattle.codec.specs.Codec.{Got, got, wrong, Codec, spellings}
 use Rattle.codec.specs.Places.{Place, FirstWrong}
 use Rattle.codec.proofs.Places.{one-first-wrong, none-wrong}
 use Rattle.codec.proofs.Blames.{Blames}
@@ -61,7 +61,7 @@ module _ (checksum : Bool) (w : ℕ) (m : List ℕ) where
         (λ y. absurd (n (tested-ended y)))
         (λ f. rw (eq-eqb _ _ long, f))
 
-    contents-long : (b : List ℕ) → m ≡ framed checksum b → length b ≡ w
+    pub contents-long : (b : List ℕ) → m ≡ framed checksum b → length b ≡ w
     contents-long b e = let n = ap length e ∙ length-append b (ending checksum b) ∙ ap (λ (k : ℕ). length b + k) (ending-long checksum b) in omega arith
 
     wrong-sum : checksum ≡ true → Ended m → (Framed checksum m → ⊥) → opening checksum w m ≡ Refused Checksum
@@ -84,24 +84,25 @@ refused-one : {A : Type 0} {p q : Refusal} → _≡_ {A = Answer A} (refused p) 
 refused-one e = cc
 
 module _ {A : Type 0} (c : Codec A) (rule : A → ℕ) (w : ℕ) (places : List Place) (u : Blames c 0 places) (same : (a : A) → c .lowest a ≡ rule a) (wide : c .width ≡ w) where
-  by-rule : (s : List ℕ) (i : ℕ) → FirstWrong (c .lowest) (c .print) places s i → FirstWrong rule (c .print) places s i
+  by-rule : (s : List ℕ) (i : ℕ) → FirstWrong (c .lowest) (spellings c) places s i → FirstWrong rule (spellings c) places s i
   by-rule s i f =
-      let a = f .before in
-      record { before = (a .0, sym (same (a .0)) ∙ a .1, a .2); unsent = λ b h. f .unsent b (same b ∙ h) }
+      let t = f .before in
+      let a = t .1 in
+      record { before = (t .0, (a .0, sym (same (a .0)) ∙ a .1, a .2), t .2); unspelt = λ r (b, h, k). f .unspelt r (b, same b ∙ h, k) }
 
   -- what the contents' reader says, where it says that a field is wrong
-  said-wrong : (b : List ℕ) (i : ℕ) → length b ≡ w → c .parse b ≡ wrong i → FirstWrong rule (c .print) places b i
+  said-wrong : (b : List ℕ) (i : ℕ) → length b ≡ w → c .parse b ≡ wrong i → FirstWrong rule (spellings c) places b i
   said-wrong b i l e =
       let k = u .blames b i (l ∙ sym wide) e in
-      by-rule b i (subst (FirstWrong (c .lowest) (c .print) places b) (sym (k .1 ∙ zero-add (k .0))) (k .2))
+      by-rule b i (subst (FirstWrong (c .lowest) (spellings c) places b) (sym (k .1 ∙ zero-add (k .0))) (k .2))
 
-  wrong-said : (b : List ℕ) (i : ℕ) → length b ≡ w → FirstWrong rule (c .print) places b i → (q : Got A) → c .parse b ≡ q → q ≡ wrong i
-  wrong-said b i l f (got a) e = let p = u .exact .sound b a (l ∙ sym wide) e in absurd (none-wrong a (sym (same a) ∙ p .0) (p .1) f)
+  wrong-said : (b : List ℕ) (i : ℕ) → length b ≡ w → FirstWrong rule (spellings c) places b i → (q : Got A) → c .parse b ≡ q → q ≡ wrong i
+  wrong-said b i l f (got a) e = let p = u .exact .sound b a (l ∙ sym wide) e in absurd (none-wrong (a, sym (same a) ∙ p .0, p .1) f)
   wrong-said b i l f (wrong j) e = ap wrong (one-first-wrong (said-wrong b j l e) f)
 
   module _ (checksum : Bool) (m : List ℕ) where
     abbrev When : Refusal → Type 0
-    When = ReadWhen rule (c .print) places (w + 2) checksum m
+    When = ReadWhen rule (spellings c) places (w + 2) checksum m
 
     long-is : lengthBy checksum (w + 2) ≡ w + endingWidth checksum
     long-is = sym (ending-by w checksum)

@@ -1,6 +1,6 @@
 -- A whole message of any codec: what its reader answers, and what its writer answers and leaves.
 use Prim.Native.Nat.{ℕ, _+_}
-use mathlib.Core.List.{List}
+use mathlib.Core.List.{List, map}
 use mathlib.Core.Bool.{Bool}
 use lib.ListN.{length, take}
 use lib.Dec.{leb, eqb}
@@ -11,7 +11,7 @@ use Rattle.refusal.specs.declared.Refusal.{Refusal}
 use Rattle.refusal.specs.declared.Refusal.the-variants.{Room, Contents}
 use Rattle.refusal.specs.declared.Verdict.{Verdict}
 use Rattle.refusal.specs.declared.Verdict.the-variants.{Done, Refused}
-use Rattle.codec.specs.Codec.{Got, got, wrong, Codec}
+use Rattle.codec.specs.Codec.{Got, got, wrong, Codec, spellings}
 use Rattle.frame.specs.Frame.{framed, endingWidth, opening}
 use Rattle.frame.specs.declared.Wrote.{Wrote}
 use Rattle.frame.specs.declared.Wrote.the-variants as wrote
@@ -31,6 +31,10 @@ readOf c checksum m = afterwards (opening checksum (c .width) m) (found (c .pars
 
 abbrev pub messageOf : {A : Type 0} → Codec A → Bool → A → List ℕ
 messageOf c checksum a = framed checksum (c .print a)
+
+-- each spelling under its own checksum; the first is the writer's message
+abbrev pub messagesOf : {A : Type 0} → Codec A → Bool → A → List (List ℕ)
+messagesOf c checksum a = map (framed checksum) (spellings c a)
 
 abbrev pub needed : {A : Type 0} → Codec A → Bool → ℕ
 needed c checksum = c .width + endingWidth checksum

@@ -9,7 +9,7 @@ use lib.ListN.{length}
 use Rattle.refusal.specs.Answer.{accepted, refused}
 use Rattle.refusal.specs.declared.Refusal.{Refusal}
 use Rattle.refusal.specs.declared.Refusal.the-variants.{Field, Room, Length, End, Checksum, Contents, Dropped, Setting, TooLong, Form, State}
-use Rattle.codec.specs.Codec.{Codec}
+use Rattle.codec.specs.Codec.{Codec, spellings}
 use Rattle.codec.specs.Places.{Place, FirstWrong}
 use Rattle.frame.specs.Frame.{framed}
 use Rattle.frame.specs.Message.{readOf, writeOf}
@@ -28,7 +28,7 @@ Framed checksum m = (b : List ℕ) × (m ≡ framed checksum b)
 
 -- ---- a reader is handed m
 
-module _ {A : Type 0} (rule : A → ℕ) (print : A → List ℕ) (places : List Place) (plain : ℕ) (checksum : Bool) (m : List ℕ) where
+module _ {A : Type 0} (rule : A → ℕ) (spellings : A → List (List ℕ)) (places : List Place) (plain : ℕ) (checksum : Bool) (m : List ℕ) where
   abbrev pub ReadWhen : Refusal → Type 0
   -- "read message of wrong length"; "its length"
   ReadWhen (Length n) = (length m ≢ lengthBy checksum plain) × (n ≡ length m)
@@ -36,8 +36,8 @@ module _ {A : Type 0} (rule : A → ℕ) (print : A → List ℕ) (places : List
   ReadWhen End = (length m ≡ lengthBy checksum plain) × (Ended m → ⊥)
   -- "checksum wrong"
   ReadWhen Checksum = (checksum ≡ true) × (length m ≡ lengthBy checksum plain) × Ended m × (Framed checksum m → ⊥)
-  -- "contents no writer writes"; "first wrong field or item"
-  ReadWhen (Contents i) = (b : List ℕ) × (m ≡ framed checksum b) × (length m ≡ lengthBy checksum plain) × FirstWrong rule print places b i
+  -- "contents no writer writes", but for other spellings ([5]); "first wrong field or item"
+  ReadWhen (Contents i) = (b : List ℕ) × (m ≡ framed checksum b) × (length m ≡ lengthBy checksum plain) × FirstWrong rule spellings places b i
   -- a reader gives no other number
   ReadWhen (Field i) = ⊥
   ReadWhen (Room n) = ⊥
@@ -55,7 +55,7 @@ WriteWhen rule low plain checksum a out r =
     ((rule a ≢ 0) × (r ≡ low (rule a))) ⊎ ((rule a ≡ 0) × (length out < lengthBy checksum plain) × (r ≡ Room (lengthBy checksum plain)))
 
 pub record Refuses {A : Type 0} (c : Codec A) (rule : A → ℕ) (low : ℕ → Refusal) (plain : ℕ) (places : List Place) : Type 0 where
-  pub read-when : (checksum : Bool) (m : List ℕ) (r : Refusal) → (readOf c checksum m ≡ refused r) ↔ ReadWhen rule (c .print) places plain checksum m r
+  pub read-when : (checksum : Bool) (m : List ℕ) (r : Refusal) → (readOf c checksum m ≡ refused r) ↔ ReadWhen rule (spellings c) places plain checksum m r
   pub write-when : (checksum : Bool) (a : A) (out : List ℕ) (r : Refusal) →
       (writeOf c low checksum a out ≡ refused r) ↔ WriteWhen rule low plain checksum a out r
   -- "where no case holds, the entry does its work": it needs no byte more than the message

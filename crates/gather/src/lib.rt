@@ -1,5 +1,5 @@
 // What a reader of a record finds, group by group, the same in both forms: the fields of a group, or
-// the first of them that no writer writes.
+// the first wrong one of them.
 use record::Figures;
 use record::Record;
 use record::RecordRead;

@@ -6,14 +6,15 @@ use mathlib.Core.Logic.{_↔_, Iff·trans, _⊎_, inl, inr}
 use mathlib.Core.Path.{_≡_, refl, sym, ap, _∙_, subst}
 use lib.IntN.{ℤ}
 use lib.ListN.{length, drop}
+use Rattle.laws.specs.Member.{_∈_}
 use Rattle.laws.proofs.Tests.{never}
 use Rattle.refusal.specs.Answer.{Answer, accepted, refused}
 use Rattle.refusal.specs.declared.Refusal.{Refusal}
 use Rattle.refusal.specs.declared.Refusal.the-variants.{Room}
-use Rattle.codec.specs.Codec.{Codec}
+use Rattle.codec.specs.Codec.{Codec, spellings}
 use Rattle.codec.specs.Places.{Place}
 use Rattle.frame.specs.Faithful.{Faithful}
-use Rattle.frame.specs.Message.{readOf, messageOf, thenWrite, thenLeft, writeOf}
+use Rattle.frame.specs.Message.{readOf, messageOf, messagesOf, thenWrite, thenLeft, writeOf}
 use Rattle.frame.specs.Refuses.{ReadWhen, Refuses}
 use Rattle.frame.proofs.Left.{then-same, then-bytes}
 use Rattle.fixed.specs.Fixed.{fixedLowest}
@@ -42,11 +43,11 @@ module _ {A : Type 0} (form : Codec A) (rule : A → ℕ) (low : ℕ → Refusal
     abbrev read : Answer A
     read = readOf form checksum m
 
-    -- of a message of sendable contents the room decides
-    call-of : (a : A) → rule a ≡ 0 → m ≡ messageOf form checksum a → Lays bytes width (accepted a) out r after
+    -- of a spelling of sendable contents the room decides
+    call-of : (a : A) → rule a ≡ 0 → m ∈ messagesOf form checksum a → Lays bytes width (accepted a) out r after
     call-of a z e = subst (λ (x : Answer A). Lays bytes width x out r after) (faithful .exactly checksum m a .1 (z, e)) call
 
-    done : r .number ≡ 0 → (r .value ≡ width) × ((a : A) × (rule a ≡ 0) × (m ≡ messageOf form checksum a) × (after ≡ bytes a ++ drop width out))
+    done : r .number ≡ 0 → (r .value ≡ width) × ((a : A) × (rule a ≡ 0) × (m ∈ messagesOf form checksum a) × (after ≡ bytes a ++ drop width out))
     done z =
         let w = was-done answers r (thenWrite width read out) (call .answers) z in
         let q = then-accepted width read out (w .0) (w .1) in
@@ -58,7 +59,7 @@ module _ {A : Type 0} (form : Codec A) (rule : A → ℕ) (low : ℕ → Refusal
           (q .0, p .0, p .1, call .leaves ∙ ap (λ (x : Answer A). thenLeft bytes x out) (q .1) ∙ b .1 ∙ ap (λ (k : ℕ). bytes (q .0) ++ drop k out) n),
         )
 
-    fits : (a : A) → rule a ≡ 0 → width ≤ length out → m ≡ messageOf form checksum a → (r .number ≡ 0) × (after ≡ bytes a ++ drop width out)
+    fits : (a : A) → rule a ≡ 0 → width ≤ length out → m ∈ messagesOf form checksum a → (r .number ≡ 0) × (after ≡ bytes a ++ drop width out)
     unfolding thenWrite
     fits a z h e =
         let w : thenWrite width (accepted a) out ≡ accepted width = room-enough width (length out) h in
@@ -66,16 +67,16 @@ module _ {A : Type 0} (form : Codec A) (rule : A → ℕ) (low : ℕ → Refusal
         (ap (λ (x : host.Answer). x .number) (l .answers ∙ ap answerOf w), l .leaves ∙ then-bytes bytes width out a width (lies .long a z) w .1)
 
     -- what is unpacked are the contents of the message
-    only : (a : A) → r .number ≡ 0 → unpack after ≡ a → m ≡ messageOf form checksum a
+    only : (a : A) → r .number ≡ 0 → unpack after ≡ a → m ∈ messagesOf form checksum a
     only a z e =
         let d = done z .1 in
-        d .2 ∙ ap (messageOf form checksum) (sym (lies .back (d .0) (drop width out) (d .1)) ∙ ap unpack (sym (d .3)) ∙ e)
+        subst (λ (b : A). m ∈ messagesOf form checksum b) (sym (lies .back (d .0) (drop width out) (d .1)) ∙ ap unpack (sym (d .3)) ∙ e) (d .2)
 
     -- a refusal's case: the message's, or then the room's
     abbrev Case : Refusal → Type 0
     Case x =
-        ReadWhen rule (form .print) places plain checksum m x ⊎
-        ((x ≡ Room width) × (length out < width) × ((a : A) × (rule a ≡ 0) × (m ≡ messageOf form checksum a)))
+        ReadWhen rule (spellings form) places plain checksum m x ⊎
+        ((x ≡ Room width) × (length out < width) × ((a : A) × (rule a ≡ 0) × (m ∈ messagesOf form checksum a)))
 
     has-case : (x : Refusal) → thenWrite width read out ≡ refused x → Case x
     has-case x e = by (then-refused width read out x e) where
@@ -170,8 +171,8 @@ module _ (part : Answer Fixed → ℕ) (m : List ℕ) (checksum : Bool) (r : hos
   of-fixed : (n : ℕ) → ((f : Fixed) × (fixed ≡ accepted f) × (n ≡ part (accepted f))) ↔
       ((f : Fixed) × (fixedLowest f ≡ 0) × (m ≡ messageOf fixedForm checksum f) × (n ≡ part (accepted f)))
   of-fixed n = (
-    λ p. let q = demand2 .fixed .exactly checksum m (p .0) .0 (p .1) in (p .0, q .0, q .1, p .2),
-    λ p. (p .0, demand2 .fixed .exactly checksum m (p .0) .1 (p .1, p .2), p .3),
+    λ p. let q = demand2 .fixed .exactly checksum m (p .0) .0 (p .1) in (p .0, q .0, sym (demand2 .fixed .writes-read checksum m (p .0) (p .1) (demand2 .fixed-once (p .0))), p .2),
+    λ p. (p .0, demand2 .fixed .exactly checksum m (p .0) .1 (p .1, inl (p .2)), p .3),
   )
 
   asks : Asked part m checksum r

@@ -7,14 +7,15 @@ use mathlib.Core.Logic.{_↔_, _⊎_}
 use mathlib.Core.Path.{_≡_}
 use lib.IntN.{ℤ, pos}
 use lib.ListN.{length, drop}
+use Rattle.laws.specs.Member.{_∈_}
 use Rattle.refusal.specs.Answer.{Answer, accepted}
 use Rattle.refusal.specs.Refusal.{numberOf, valueOf}
 use Rattle.refusal.specs.declared.Refusal.{Refusal}
 use Rattle.refusal.specs.declared.Refusal.the-variants.{Field, Room, Setting}
-use Rattle.codec.specs.Codec.{Codec}
+use Rattle.codec.specs.Codec.{Codec, spellings}
 use Rattle.codec.specs.Places.{Place}
 use Rattle.frame.specs.Frame.{sumOf}
-use Rattle.frame.specs.Message.{messageOf}
+use Rattle.frame.specs.Message.{messageOf, messagesOf}
 use Rattle.frame.specs.Refuses.{lengthBy, ReadWhen, WriteWhen}
 use Rattle.record.specs.Forms.{textForm, packedForm}
 use Rattle.record.specs.Places.{textPlaces, packedPlaces}
@@ -64,15 +65,15 @@ IsRefused x r = (r .number ≡ numberOf x) × (r .value ≡ valueOf x)
 -- what one call of a reader says: m is the message, out the lent memory, r the answer, and after what is left
 pub record Reads {A : Type 0} (form : Codec A) (rule : A → ℕ) (plain : ℕ) (places : List Place) (bytes : A → List ℕ) (width : ℕ) (unpack : List ℕ → A)
     (checksum : Bool) (m out : List ℕ) (r : host.Answer) (after : List ℕ) : Type 0 where
-  -- 0 comes with the count, and only for a message that the writer writes: its contents are laid, and the bytes past them are unchanged
-  pub done : r .number ≡ 0 → (r .value ≡ width) × ((a : A) × (rule a ≡ 0) × (m ≡ messageOf form checksum a) × (after ≡ bytes a ++ drop width out))
-  -- with room enough: 0 with these bytes exactly where the message is the writer's for these contents,
-  pub gives-back : (a : A) → rule a ≡ 0 → width ≤ length out → ((r .number ≡ 0) × (after ≡ bytes a ++ drop width out)) ↔ (m ≡ messageOf form checksum a)
+  -- 0 comes with the count, and only for a spelling of sendable contents: they are laid, and the bytes past them are unchanged
+  pub done : r .number ≡ 0 → (r .value ≡ width) × ((a : A) × (rule a ≡ 0) × (m ∈ messagesOf form checksum a) × (after ≡ bytes a ++ drop width out))
+  -- with room enough: 0 with these bytes exactly where the message is a spelling of these contents,
+  pub gives-back : (a : A) → rule a ≡ 0 → width ≤ length out → ((r .number ≡ 0) × (after ≡ bytes a ++ drop width out)) ↔ (m ∈ messagesOf form checksum a)
   -- and 0 with these contents unpacked
-  pub unpacks : (a : A) → rule a ≡ 0 → width ≤ length out → ((r .number ≡ 0) × (unpack after ≡ a)) ↔ (m ≡ messageOf form checksum a)
-  -- "Readers check 3, 4, 5, 6, an exported one then 2": each exactly in its case, and 2, with the bytes that are needed, only for a message of the writer
-  pub refuses : (x : Refusal) → IsRefused x r ↔ (ReadWhen rule (form .print) places plain checksum m x ⊎
-      ((x ≡ Room width) × (length out < width) × ((a : A) × (rule a ≡ 0) × (m ≡ messageOf form checksum a))))
+  pub unpacks : (a : A) → rule a ≡ 0 → width ≤ length out → ((r .number ≡ 0) × (unpack after ≡ a)) ↔ (m ∈ messagesOf form checksum a)
+  -- "Readers check 3, 4, 5, 6, an exported one then 2": each exactly in its case, and 2, with the bytes that are needed, only for such a spelling
+  pub refuses : (x : Refusal) → IsRefused x r ↔ (ReadWhen rule (spellings form) places plain checksum m x ⊎
+      ((x ≡ Room width) × (length out < width) × ((a : A) × (rule a ≡ 0) × (m ∈ messagesOf form checksum a))))
   -- refusals write nothing
   pub refused-same : (r .number ≡ 0 → ⊥) → after ≡ out
 
@@ -131,7 +132,7 @@ pub record Converted (field : ℕ) (z : ℤ) (unit wanted : ℕ) (r : Conversion
 pub record Asked (part : Answer Fixed → ℕ) (m : List ℕ) (checksum : Bool) (r : host.Answer) : Type 0 where
   pub done : (n : ℕ) → IsDone n r ↔
       ((f : Fixed) × (fixedLowest f ≡ 0) × (m ≡ messageOf fixedForm checksum f) × (n ≡ part (accepted f)))
-  pub refuses : (x : Refusal) → IsRefused x r ↔ ReadWhen fixedLowest (fixedForm .print) fixedPlaces 67 checksum m x
+  pub refuses : (x : Refusal) → IsRefused x r ↔ ReadWhen fixedLowest (spellings fixedForm) fixedPlaces 67 checksum m x
 
 -- ---- all entries
 

@@ -1,4 +1,5 @@
 pub mod Every
 pub mod Gives
+pub mod Member
 pub mod Over
 pub mod Within

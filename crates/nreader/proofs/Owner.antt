@@ -13,7 +13,7 @@ use Rattle.refusal.specs.declared.Refusal.{Refusal}
 use Rattle.refusal.specs.declared.Verdict.the-variants.{Done, Refused}
 use Rattle.frame.specs.Frame.{endingWidth}
 use Rattle.frame.specs.Message.{readOf}
-use Rattle.frame.proofs.Exactly.{reads-only, framed-long}
+use Rattle.frame.proofs.Exactly.{reads-only, messages-long}
 use Rattle.fixed.specs.Fixed.{fixedRead}
 use Rattle.fixed.specs.Form.{fixedForm, fixedLength}
 use Rattle.fixed.specs.declared.Fixed.{Fixed}
@@ -47,10 +47,10 @@ pub part-by : (m : RefT (List ℕ)) {a b : Answer Fixed} {p : RefT (List ℕ)} �
 part-by m {p = p} e = subst (λ (x : Answer Fixed). PartBy m x p) (sym e)
 
 module _ (checksum : Bool) (m : List ℕ) (f : Fixed) (e : readOf fixedForm checksum m ≡ accepted f) where
-  pub accepted-long : length m ≡ fixedLength + endingWidth checksum
+  accepted-long : length m ≡ fixedLength + endingWidth checksum
   accepted-long =
       let p = reads-only fixedForm fixed-form-exact checksum m f e in
-      ap length (p .1) ∙ framed-long checksum fixedLength (fixedForm .print f) (fixed-form-exact .long f (p .0) ∙ fixed-form-width)
+      messages-long fixedForm fixed-form-exact checksum m f (p .0) (p .1) ∙ ap (λ (n : ℕ). n + endingWidth checksum) fixed-form-width
 
   pub owner-fits : 12 + trimmed (f .owner) ≤ length m
   owner-fits =

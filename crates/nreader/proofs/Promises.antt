@@ -10,11 +10,11 @@ use lib.ListN.{length, getD, take, drop}
 use lib.Seq.{take-take, take-at, drop-append-add}
 use Rattle.laws.proofs.Tests.{told}
 use Rattle.frame.specs.Frame.{ending}
-use Rattle.frame.proofs.Exactly.{reads-only}
+use Rattle.frame.proofs.Exactly.{reads-only, one-message}
 use Rattle.fixed.specs.Fixed.{lensIn}
 use Rattle.fixed.specs.Form.{serial, owner, lensItems, version, fixedForm}
 use Rattle.fixed.specs.declared.Fixed.{Fixed}
-use Rattle.fixed.proofs.Exact.{fixed-form-exact, fixed-lowest}
+use Rattle.fixed.proofs.Exact.{fixed-form-exact, fixed-once, fixed-lowest}
 use Rattle.fixed.proofs.Given.{items-long}
 use Rattle.nreader.specs.Reader.{unspaced, trimmed}
 use Rattle.nreader.specs.Promises.{OwnersName, OnlySpaces, AllSpaces}
@@ -34,11 +34,12 @@ owner-at f r s o =
 pub owners-name : OwnersName
 owners-name checksum m f e =
     let p = reads-only fixedForm fixed-form-exact checksum m f e in
+    let own = one-message fixedForm fixed-form-exact checksum m f (fixed-once f) (p .1) in
     let l = items-long f (sym (fixed-lowest f) ∙ p .0) in
     let n = trimmed (f .owner) in
     let h : n ≤ 31 = omega (arith, unspaced-low (f .owner) (length (f .owner)), l .thirty-one) in
     sym (take-take n 31 (drop 12 m) h)
-    ∙ ap (take n) (ap (λ (x : List ℕ). take 31 (drop 12 x)) (p .1) ∙ owner-at f (ending checksum (fixedForm .print f)) (l .nine) (l .thirty-one))
+    ∙ ap (take n) (ap (λ (x : List ℕ). take 31 (drop 12 x)) own ∙ owner-at f (ending checksum (fixedForm .print f)) (l .nine) (l .thirty-one))
 
 -- one byte more: a space is left out, and any other byte ends the part
 step-space : (s : List ℕ) (n : ℕ) → eqb (getD s n 0) 32 ≡ true → unspaced s (suc n) ≡ unspaced s n

@@ -1,6 +1,6 @@
 -- A number in tenths: its whole part as w digits, a point, and the digit of its tenths (027.3 is 273 with three digits, 5.6 is 56 with one).
 use Prim.Native.Nat.{ℕ, _+_, _-_, _*_, _/_, _%_}
-use mathlib.Core.List.{List, _∷_, _++_}
+use mathlib.Core.List.{List, [], _∷_, _++_}
 use mathlib.Core.Bool.{cond}
 use lib.ListN.{length, take, drop}
 use lib.Dec.{ltb, leb}
@@ -22,6 +22,7 @@ unfoldable pub pointed : ℕ → ℕ → ℕ → Codec ℕ
 pointed i w top =
     through i (λ n. leb n top)
     (λ n. (n / 10, n % 10))
+    (λ n. [])
     (λ p. passed (leb (p .0 * 10 + p .1) top) i (p .0 * 10 + p .1))
     (number i 10 48 w (top / 10) ⊗ tagged point i (number i 10 48 1 9))
 

@@ -1,7 +1,8 @@
--- The entrance pupil: field 10, -999..999. Zero is written with plus, in both forms; minus zero is refused.
+-- The entrance pupil: field 10, -999..999. Zero is written with plus, in both forms; other makers' minus zero is read
+-- as zero ([5]).
 use Prim.Native.Nat.{ℕ, _+_, _/_, _%_}
-use mathlib.Core.List.{List}
-use mathlib.Core.Bool.{Bool, _&&_, _||_, not, cond}
+use mathlib.Core.List.{List, [], _∷_}
+use mathlib.Core.Bool.{Bool, _&&_, _||_, cond}
 use lib.ListN.{length, take, drop, getD}
 use lib.Dec.{leb, eqb}
 use lib.IntN.{ℤ}
@@ -16,12 +17,13 @@ use Rattle.pupil.specs.declared.Signed.the-variants as signed
 abbrev pub pupilOk : ℤ → Bool
 pupilOk z = leb (size z) 999
 
--- a sign and a size that a writer sends together
-unfoldable pub sentSo : Bool → ℕ → Bool
-sentSo below n = leb n 999 && not (below && eqb n 0)
-
+-- the number with this sign and size
 abbrev pub pupilOf : Bool → ℕ → Got ℤ
-pupilOf below n = passed (sentSo below n) 10 (signedOf below n)
+pupilOf below n = passed (leb n 999) 10 (signedOf below n)
+
+-- a code of zero besides the one that is sent
+abbrev pub zeroToo : {A : Type 0} → A → ℤ → List A
+zeroToo code z = cond (eqb (size z) 0) (code ∷ []) []
 
 -- + or -
 abbrev pub signByte : ℤ → ℕ
@@ -33,19 +35,34 @@ isSign x = eqb x 43 || eqb x 45
 -- E, sign, three digits
 unfoldable pub pupilText : Codec ℤ
 pupilText =
-    tagged 69 10 (through 10 pupilOk (λ z. (signByte z, size z)) (λ p. pupilOf (eqb (p .0) 45) (p .1)) (letter 10 isSign ⊗ number 10 10 48 3 999))
+    tagged 69 10 (through 10 pupilOk (λ z. (signByte z, size z)) (zeroToo (45, 0)) (λ p. pupilOf (eqb (p .0) 45) (p .1)) (letter 10 isSign ⊗ number 10 10 48 3 999))
 
 -- sign and ten-bit magnitude in two groups: first byte 01S0xxxx, S is 1 for negative
 abbrev pub pupilCode : ℤ → ℕ
 pupilCode z = cond (below0 z) (2048 + size z) (size z)
 
 unfoldable pub pupilPacked : Codec ℤ
-pupilPacked = through 10 pupilOk pupilCode (λ k. pupilOf (eqb (k / 2048) 1) (k % 2048)) (number 10 64 64 2 4095)
+pupilPacked = through 10 pupilOk pupilCode (zeroToo 2048) (λ k. pupilOf (eqb (k / 2048) 1) (k % 2048)) (number 10 64 64 2 4095)
+
+-- ---- zero, as it is sent and as other makers send it
+
+-- E+000, E-000
+abbrev pub plusText : List ℕ
+plusText = 69 ∷ 43 ∷ 48 ∷ 48 ∷ 48 ∷ []
+
+abbrev pub minusText : List ℕ
+minusText = 69 ∷ 45 ∷ 48 ∷ 48 ∷ 48 ∷ []
+
+abbrev pub plusPacked : List ℕ
+plusPacked = 0x40 ∷ 0x40 ∷ []
+
+abbrev pub minusPacked : List ℕ
+minusPacked = 0x60 ∷ 0x40 ∷ []
 
 -- ---- what the code's readers answer
 
 unfoldable pub signedField : Bool → ℕ → Signed
-signedField below n = cond (sentSo below n) (signed.Number (signedOf below n)) signed.Wrong
+signedField below n = cond (leb n 999) (signed.Number (signedOf below n)) signed.Wrong
 
 abbrev pub signedIn : Bool → Field → Signed
 signedIn below (Value n) = signedField below n

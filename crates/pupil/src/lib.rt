@@ -1,24 +1,21 @@
 // The entrance pupil, the one signed field, as text (E, sign, three digits) and packed (sign and
-// ten-bit magnitude in two groups). Zero is written with plus; minus zero is refused.
+// ten-bit magnitude in two groups). Zero is written with plus; minus zero is read as zero.
 use digits::Field;
 ghost use mathlib.Core.Path.{_≡_};
 ghost use Rattle.pupil.specs.Pupil.{signByte, isMarked, signedField, pupilCode};
 ghost use Rattle.pupil.specs.Contracts.{PutPupilText, PutPupilPacked, ReadPupilText, ReadPupilPacked};
 
-// What the bytes of the field hold: a number, or what no writer writes.
+// What the bytes of the field hold: a number, or none.
 pub enum Signed {
     Number(i32),
     Wrong,
 }
 
-// The number with this sign and size, where a writer sends it so.
+// The number with this sign and size, where it is in range.
 fn signed_field(below: bool, n: u32) -> Signed
     ensures { λ r. ⌜ r ≡ signedField below n ⌝ }
 {
     if 999 < n {
-        return Signed::Wrong;
-    }
-    if below & (n == 0) {
         return Signed::Wrong;
     }
     Signed::Number(sign::signed_of(below, n as u16))

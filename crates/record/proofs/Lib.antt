@@ -1,3 +1,4 @@
 pub mod Exact
+pub mod PupilAt
 pub mod Ranges
 pub mod Unique

@@ -1,17 +1,19 @@
 -- The starred figures, computed by the checker. Assumes nothing.
 use mathlib.Core.Path.{refl}
 use Rattle.refusal.specs.Answer.{unless}
-use Rattle.digits.specs.Digits.{digits}
+use Rattle.laws.specs.Every.{every}
+use Rattle.digits.specs.Digits.{digits, value, readDigits, readField}
+use Rattle.codec.specs.Codec.{fieldSays, passed, both, chained}
 use Rattle.codec.specs.Places.{fieldOf}
 use Rattle.frame.specs.Frame.{xorFrom, sumOf, ending}
 use Rattle.pointed.specs.Pointed.{pointed}
 use Rattle.stop.specs.Stop.{stopText, stop, pair}
 use Rattle.pupil.specs.Pupil.{pupilText, pupilPacked}
 use Rattle.record.specs.Forms.{frontText, middleText, backText, frontPacked, middlePacked, backPacked, serial, textForm, packedForm}
-use Rattle.record.specs.Places.{packedPlaces}
+use Rattle.record.specs.Places.{textPlaces, packedPlaces}
 use Rattle.units.specs.Units.{byUnit, sizeIn, numberIn, inRange, conversion}
 use Rattle.bench_lens.specs.Bench.{letterOf}
-use Rattle.starred.specs.Starred.{likeR, recordR, Session, textR, packedR, Starred}
+use Rattle.starred.specs.Starred.{likeR, recordR, Session, textR, packedR, Starred, Amended}
 
 pub starred : Starred
 unfolding likeR recordR textR packedR digits fieldOf packedPlaces xorFrom sumOf ending pointed stopText stop pair pupilText pupilPacked frontText middleText backText frontPacked middlePacked backPacked serial textForm packedForm unless byUnit sizeIn numberIn inRange conversion
@@ -31,6 +33,21 @@ starred = record {
   mm-9999999 = refl;
   inch-25 = refl;
   inch-minus-25 = refl;
+}
+
+pub amended : Amended
+unfolding digits value readDigits readField fieldSays passed both chained pupilText pupilPacked every likeR fieldOf textPlaces packedPlaces pointed stopText stop pair frontText middleText backText frontPacked middlePacked backPacked serial textForm packedForm
+amended = record {
+  sends-40-40 = refl;
+  sends-plus-000 = refl;
+  packed-60-40 = refl;
+  packed-40-40 = refl;
+  packed-60-41 = refl;
+  packed-70-40 = refl;
+  text-minus-000 = refl;
+  text-plus-000 = refl;
+  text-minus-001 = refl;
+  text-space-000 = refl;
 }
 
 pub session : Session

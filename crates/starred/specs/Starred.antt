@@ -1,4 +1,4 @@
--- Document 01's bench figures marked *: one table, one statement.
+-- Document 01's bench figures marked *: one table, one statement; and the figure that [5] amends.
 use Prim.Native.Nat.{ℕ}
 use mathlib.Core.Bool.{true}
 use mathlib.Core.List.{List, [], _∷_}
@@ -6,10 +6,12 @@ use mathlib.Core.Path.{_≡_}
 use lib.IntN.{ℤ, pos, negsuc}
 use lib.ListN.{take, drop}
 use Rattle.refusal.specs.Answer.{accepted}
+use Rattle.codec.specs.Codec.{got, wrong}
 use Rattle.codec.specs.Places.{fieldOf}
 use Rattle.frame.specs.Frame.{framed}
+use Rattle.pupil.specs.Pupil.{pupilText, pupilPacked}
 use Rattle.record.specs.Forms.{textForm, packedForm}
-use Rattle.record.specs.Places.{packedPlaces}
+use Rattle.record.specs.Places.{textPlaces, packedPlaces}
 use Rattle.record.specs.declared.Record.{Record}
 use Rattle.units.specs.Units.{conversion}
 use Rattle.bench_lens.specs.Bench.{letterOf, benchSettings, benchMeasurement}
@@ -57,6 +59,9 @@ distance n = drop 1 (packedField 1 (likeR n 56 5 (pos 23) 0))
 abbrev pub pupil : ℤ → List ℕ
 pupil z = packedField 10 (likeR 798 56 5 z 0)
 
+abbrev pub pupilAsText : ℤ → List ℕ
+pupilAsText z = fieldOf textPlaces 10 (textForm .print (likeR 798 56 5 z 0))
+
 abbrev pub zoom : ℕ → List ℕ
 zoom n = packedField 11 (likeR 798 56 5 (pos 23) n)
 
@@ -94,3 +99,16 @@ pub record Starred : Type 0 where
   pub mm-9999999 : conversion 1 (pos 9999999) 77 73 ≡ accepted (pos 3937007)
   pub inch-25 : conversion 1 (pos 25) 73 77 ≡ accepted (pos 64)
   pub inch-minus-25 : conversion 10 (negsuc 24) 73 77 ≡ accepted (negsuc 63)
+
+-- "60 40 refused, field 10", as [5] amends it: 0 is sent as 40 40 and as E+000, read of these and of 60 40 and E-000, and not of what stands next to them
+pub record Amended : Type 0 where
+  pub sends-40-40 : pupil (pos 0) ≡ 0x40 ∷ 0x40 ∷ []
+  pub sends-plus-000 : pupilAsText (pos 0) ≡ 0x45 ∷ 0x2B ∷ 0x30 ∷ 0x30 ∷ 0x30 ∷ []
+  pub packed-60-40 : pupilPacked .parse (0x60 ∷ 0x40 ∷ []) ≡ got (pos 0)
+  pub packed-40-40 : pupilPacked .parse (0x40 ∷ 0x40 ∷ []) ≡ got (pos 0)
+  pub packed-60-41 : pupilPacked .parse (0x60 ∷ 0x41 ∷ []) ≡ got (negsuc 0)
+  pub packed-70-40 : pupilPacked .parse (0x70 ∷ 0x40 ∷ []) ≡ wrong 10
+  pub text-minus-000 : pupilText .parse (0x45 ∷ 0x2D ∷ 0x30 ∷ 0x30 ∷ 0x30 ∷ []) ≡ got (pos 0)
+  pub text-plus-000 : pupilText .parse (0x45 ∷ 0x2B ∷ 0x30 ∷ 0x30 ∷ 0x30 ∷ []) ≡ got (pos 0)
+  pub text-minus-001 : pupilText .parse (0x45 ∷ 0x2D ∷ 0x30 ∷ 0x30 ∷ 0x31 ∷ []) ≡ got (negsuc 0)
+  pub text-space-000 : pupilText .parse (0x45 ∷ 0x20 ∷ 0x30 ∷ 0x30 ∷ 0x30 ∷ []) ≡ wrong 10

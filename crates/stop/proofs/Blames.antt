@@ -2,17 +2,19 @@
 use Prim.Native.Nat.{ℕ, zero, suc, _+_, _*_, _/_, _%_, _≤_, _<_}
 use mathlib.Core.List.{List, [], _∷_}
 use mathlib.Core.Bool.{true, _&&_}
+use mathlib.Core.Logic.{inl}
 use mathlib.Core.Path.{_≡_, refl, sym, ap, ap₂, _∙_}
 use native.Mathlib.Omega.{arith}
 use borrow.Author.Tests.{leb-true, le-leb}
 use lib.Dec.{leb, eqb}
 use lib.ListN.{length, take, getD}
 use lib.Seq.{take-take, take-all}
+use Rattle.laws.proofs.MemberLaws.{the-only}
 use Rattle.laws.proofs.Tests.{never}
 use Rattle.digits.specs.Digits.{only}
 use Rattle.digits.specs.declared.Field.{Field}
 use Rattle.digits.specs.declared.Field.the-variants.{Value}
-use Rattle.codec.specs.Codec.{got, wrong, failing, fieldSays}
+use Rattle.codec.specs.Codec.{got, wrong, spellings, failing, fieldSays}
 use Rattle.codec.specs.Places.{fieldOf, FirstWrong}
 use Rattle.codec.proofs.Exact.{holds, fine, first-zero, zero-first, field-is}
 use Rattle.codec.proofs.Blames.{Alone, Blames, both-wrong, field-wrong}
@@ -73,13 +75,13 @@ module _ (s : List ℕ) (l : length s ≡ 2) (i : ℕ) where
   all = take-all 2 s (omega arith)
 
   -- the top bit of the first byte, or the stop out of range
-  stop-wrong : fieldSays 3 (readStop x y) ≡ wrong i → FirstWrong (pair .lowest) (pair .print) pairPlaces s 1
+  stop-wrong : fieldSays 3 (readStop x y) ≡ wrong i → FirstWrong (pair .lowest) (spellings pair) pairPlaces s 1
   unfolding pair fieldOf
   stop-wrong e = record {
-    before = ((0, 0), none-sent, none);
-    unsent = λ p h t.
+    before = (stopPair 0 0, ((0, 0), none-sent, inl refl), none);
+    unspelt = λ r (p, h, w) t.
         let k = sent-pair p h in
-        said 3 (stop-by-share s (stopPair (p .0) (p .1)) (ap stopShare (sym all) ∙ t) ∙ back-stop (p .0) (p .1) (k .0) (k .1)) e;
+        said 3 (stop-by-share s (stopPair (p .0) (p .1)) (ap stopShare (sym all) ∙ t ∙ ap (λ (u : List ℕ). stopShare (take 2 u)) (the-only w)) ∙ back-stop (p .0) (p .1) (k .0) (k .1)) e;
   } where
     none : (j : ℕ) → j < 1 → fieldOf pairPlaces j s ≡ fieldOf pairPlaces j (stopPair 0 0)
     none zero h = refl
@@ -96,16 +98,16 @@ module _ (s : List ℕ) (l : length s ≡ 2) (i : ℕ) where
         ap stopShare all ∙ ap₂ (λ (a b : ℕ). a ∷ b ∷ []) (omega arith) (omega arith)
     stop-right (suc (suc j)) h = absurd (omega arith)
 
-    tenth-wrong : fieldSays 4 (readTenth y) ≡ wrong i → FirstWrong (pair .lowest) (pair .print) pairPlaces s 2
+    tenth-wrong : fieldSays 4 (readTenth y) ≡ wrong i → FirstWrong (pair .lowest) (spellings pair) pairPlaces s 2
     unfolding pair fieldOf
     tenth-wrong e = record {
-      before = ((n, 0), pair-sent n 0 (stop-found x y n f .1) (omega arith), stop-right);
-      unsent = λ p h t.
+      before = (stopPair n 0, ((n, 0), pair-sent n 0 (stop-found x y n f .1) (omega arith), inl refl), stop-right);
+      unspelt = λ r (p, h, w) t.
           let k = sent-pair p h in
-          said 4 (tenth-by-share s (stopPair (p .0) (p .1)) (ap tenthShare (sym all) ∙ t) ∙ back-tenth (p .0) (p .1) (k .0) (k .1)) e;
+          said 4 (tenth-by-share s (stopPair (p .0) (p .1)) (ap tenthShare (sym all) ∙ t ∙ ap (λ (u : List ℕ). tenthShare (take 2 u)) (the-only w)) ∙ back-tenth (p .0) (p .1) (k .0) (k .1)) e;
     }
 
-  pair-first : pair .parse s ≡ wrong i → (k : ℕ) × (i ≡ 2 + k) × FirstWrong (pair .lowest) (pair .print) pairPlaces s k
+  pair-first : pair .parse s ≡ wrong i → (k : ℕ) × (i ≡ 2 + k) × FirstWrong (pair .lowest) (spellings pair) pairPlaces s k
   unfolding pair
   pair-first e =
       both-wrong (fieldSays 3 (readStop x y)) (fieldSays 4 (readTenth y)) i e

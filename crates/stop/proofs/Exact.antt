@@ -2,6 +2,7 @@
 use Prim.Native.Nat.{ℕ, _+_, _*_, _/_, _%_, _≤_, _<_}
 use mathlib.Core.List.{List, [], _∷_, _++_}
 use mathlib.Core.Bool.{Bool, true, false, _&&_}
+use mathlib.Core.Logic.{inl}
 use mathlib.Core.Path.{_≡_, refl, sym, ap, ap₂, _∙_}
 use native.Mathlib.Omega.{arith}
 use borrow.Author.Tests.{ltb-true, ltb-false, leb-true, eqb-true, lt-ltb, le-ltb, le-leb, eq-eqb, ne-eqb}
@@ -16,7 +17,7 @@ use Rattle.digits.proofs.Laws.{read-digits, digits-read}
 use Rattle.codec.specs.Codec.{got, failing, both, fieldSays}
 use Rattle.codec.proofs.Exact.{Exact, holds, fine, first-zero, zero-first, both-is, field-is}
 use Rattle.pointed.specs.Pointed.{point, pointedText, pointed, readPointed}
-use Rattle.pointed.proofs.Exact.{pointed-long, pointed-width, pointed-print, pointed-lowest, pointed-exact, pointed-read}
+use Rattle.pointed.proofs.Exact.{pointed-long, pointed-width, pointed-print, pointed-spelt, pointed-lowest, pointed-exact, pointed-read}
 use Rattle.stop.specs.Stop.{stopOk, stopText, readTens, readStopText, stop, stopPair, stopIn, readStop, readTenth, pair}
 
 -- ---- the range
@@ -111,7 +112,7 @@ unfolding fieldSays
 low-sound s n l e =
     let p = low-exact .sound s n (l ∙ sym (pointed-width 3 1 99)) (sym (pointed-read 3 1 99 s l) ∙ ap (fieldSays 3) e) in
     let k = leb-true n 99 (holds _ 2 (sym (pointed-lowest 3 1 99 n) ∙ p .0)) in
-    (stop-low n (omega arith), p .1 ∙ pointed-print 3 1 99 n ∙ sym (low-text n (omega arith)))
+    (stop-low n (omega arith), pointed-spelt 3 1 99 n (p .1) ∙ sym (low-text n (omega arith)))
 
 high-sound : (s : List ℕ) (n : ℕ) → length s ≡ 3 → getD s 2 0 ≡ point → readTens (readDecimal 25 (take 2 s)) ≡ Value n → (stopOk n ≡ true) × (s ≡ stopText n)
 high-sound s n l y e =
@@ -138,9 +139,10 @@ unfolding stop fieldSays
 stop-exact = record {
   long = λ s h. stop-long s;
   back = λ s h. rw (stop-back s (holds (stopOk s) 2 h));
+  others = λ n s h k. absurd k;
   sound = λ s n l e.
       let p = stop-sound s n l (field-is 3 (readStopText s) n e) in
-      (fine (stopOk n) 3 (p .0), p .1);
+      (fine (stopOk n) 3 (p .0), inl (p .1));
 }
 
 -- what the code's reader says is what the codec parses
@@ -205,7 +207,12 @@ pair-back p h =
 
 pub pair-exact : Exact pair
 unfolding pair
-pair-exact = record { long = λ p h. refl; back = pair-back; sound = pair-sound }
+pair-exact = record {
+  long = λ p h. refl;
+  back = pair-back;
+  others = λ p s h k. absurd k;
+  sound = λ s p l e. let q = pair-sound s p l e in (q .0, inl (q .1));
+}
 
 -- what the code's two readers say is what the codec parses
 pub pair-read : (s : List ℕ) → both (fieldSays 3 (readStop (getD s 0 0) (getD s 1 0))) (fieldSays 4 (readTenth (getD s 1 0))) ≡ pair .parse s

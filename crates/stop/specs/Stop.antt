@@ -33,7 +33,7 @@ readStopText s =
     Wrong
 
 unfoldable pub stop : Codec ℕ
-stop = record { width = 3; lowest = λ s. failing (stopOk s) 3; print = stopText; parse = λ s. fieldSays 3 (readStopText s) }
+stop = record { width = 3; lowest = λ s. failing (stopOk s) 3; print = stopText; also = λ s. []; parse = λ s. fieldSays 3 (readStopText s) }
 
 -- ---- packed
 
@@ -58,5 +58,6 @@ pair = record {
   width = 2;
   lowest = λ p. first (failing (stopOk (p .0)) 3) (failing (leb (p .1) 9) 4);
   print = λ p. stopPair (p .0) (p .1);
+  also = λ p. [];
   parse = λ s. both (fieldSays 3 (readStop (getD s 0 0) (getD s 1 0))) (fieldSays 4 (readTenth (getD s 1 0)));
 }

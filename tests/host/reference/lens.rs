@@ -145,7 +145,7 @@ fn value_of_text(field: usize, text: &[u8]) -> Option<i64> {
         (3, &[a, b, b'.']) => number(&[a, b]).filter(|&n| n >= 10).map(|n| 10 * n),
         (9, &[a, b, c, b'.', d]) => number(&[a, b, c, d]),
         (10, [b'+', digits @ ..]) => number(digits),
-        (10, [b'-', digits @ ..]) => number(digits).filter(|&n| n != 0).map(|n| -n),
+        (10, [b'-', digits @ ..]) => number(digits).map(|n| -n),
         (3 | 9 | 10, _) => None,
         _ => number(text),
     }
@@ -193,14 +193,10 @@ fn value_of_groups(bytes: &[u8]) -> Option<i64> {
     bytes.iter().try_fold(0, |v, b| (b >> 6 == 1).then(|| (v << 6) | i64::from(b & 0x3F)))
 }
 
-/// Sign and ten-bit magnitude: 01S0xxxx 01xxxxxx.
+/// Sign and ten-bit magnitude: 01S0xxxx 01xxxxxx. Minus zero is zero, as request 5 has it.
 fn value_of_pupil(bytes: &[u8]) -> Option<i64> {
     let magnitude = value_of_groups(&[bytes[0] & !0x20, bytes[1]])?;
-    match (bytes[0] & 0x20 != 0, magnitude) {
-        (true, 0) => None,
-        (true, m) => Some(-m),
-        (false, m) => Some(m),
-    }
+    Some(if bytes[0] & 0x20 != 0 { -magnitude } else { magnitude })
 }
 
 pub fn packed_message(r: &Record, with_sum: bool) -> Result<Vec<u8>, Refusal> {

@@ -1,0 +1,201 @@
+-- Minus zero, once for both forms: a record's spellings are its pupil's, and the pupil's bytes stand in one place. Assumes nothing.
+use Prim.Native.Nat.{ℕ, _+_}
+use mathlib.Core.Bool.{Bool}
+use mathlib.Core.List.{List, [], _∷_, _++_, map, append-assoc}
+use mathlib.Core.Logic.{_≢_, _↔_, _⊎_, inl, inr}
+use mathlib.Core.Path.{_≡_, refl, sym, ap, ap₂, subst, _∙_}
+use native.Mathlib.Omega.{arith}
+use lib.Dec.{eqb}
+use lib.IntN.{ℤ, pos}
+use lib.ListN.{length, take, drop, getD, length-append}
+use lib.Seq.{take-at, drop-at, drop-append-add}
+use Rattle.laws.specs.Member.{_∈_}
+use Rattle.laws.specs.Over.{over}
+use Rattle.laws.proofs.MemberLaws.{as-member, map-in, in-map}
+use Rattle.laws.proofs.OverLaws.{over-fits, length-over}
+use Rattle.laws.proofs.Tests.{told}
+use Rattle.refusal.specs.Answer.{accepted, refused}
+use Rattle.refusal.specs.declared.Refusal.the-variants.{Field, Contents}
+use Rattle.sign.specs.Sign.{size}
+use Rattle.codec.specs.Codec.{got, Codec, spellings}
+use Rattle.codec.specs.Places.{Place, fieldOf}
+use Rattle.codec.proofs.Exact.{Exact, spelt-read}
+use Rattle.codec.proofs.Blames.{Blames}
+use Rattle.frame.specs.Frame.{ending, framed}
+use Rattle.frame.specs.Message.{readOf, messageOf, messagesOf}
+use Rattle.frame.proofs.Exactly.{reads-only, exactly}
+use Rattle.frame.proofs.Faithful.{ending-by}
+use Rattle.frame.proofs.Refuses.{contents-long, refuses}
+use Rattle.pupil.specs.Pupil.{zeroToo, pupilText, pupilPacked, plusText, minusText, plusPacked, minusPacked}
+use Rattle.pupil.proofs.Exact.{zero-of, too-in, in-too, TwoZeros, text-zeros, packed-zeros}
+use Rattle.record.specs.Record.{recordLowest}
+use Rattle.record.specs.Forms.{textLength, packedLength, textForm, packedForm}
+use Rattle.record.specs.Places.{textPlaces, packedPlaces}
+use Rattle.record.specs.declared.Record.{Record}
+use Rattle.record.proofs.Exact.{text-form-blames, packed-form-blames, text-lowest, packed-lowest, text-form-width, packed-form-width}
+use Rattle.record.proofs.PupilAt.{zeroRecord, zero-sendable, PupilAt, text-at, packed-at}
+use Rattle.demand2.specs.MinusZero.{MinusZero}
+
+module _ (form : Codec Record) (pupil : Codec ℤ) (places : List Place) (w at : ℕ) (plus minus : List ℕ) (blames : Blames form 0 places) (wide : form .width ≡ w)
+    (same : (r : Record) → form .lowest r ≡ recordLowest r) (zeros : TwoZeros pupil plus minus) (stands : PupilAt form pupil places at) (differ : plus ≢ minus) where
+  exact : Exact form
+  exact = blames .exact
+
+  -- the contents with these bytes in the pupil's place
+  abbrev put : Record → List ℕ → List ℕ
+  put r t = stands .before r ++ (t ++ stands .behind r)
+
+  -- each spelling of zero is as wide as the pupil, and is read as it
+  of-zero : (t : List ℕ) → t ∈ (plus ∷ minus ∷ []) → (length t ≡ pupil .width) × (pupil .parse t ≡ got (pos 0))
+  of-zero t k = spelt-read (zeros .exact) (pos 0) t (zeros .sendable) (subst (λ (l : List (List ℕ)). t ∈ l) (sym (zeros .spelt (pos 0) ∙ ap (λ (s : List ℕ). s ∷ minus ∷ []) (zeros .sent))) k)
+
+  plus-long : length plus ≡ pupil .width
+  plus-long = of-zero plus (inl refl) .0
+
+  minus-long : length minus ≡ pupil .width
+  minus-long = of-zero minus (inr (inl refl)) .0
+
+  put-field : (r : Record) (t x : List ℕ) → length t ≡ pupil .width → fieldOf places 10 (stands .before r ++ (t ++ x)) ≡ t
+  put-field r t x l = stands .field _ ∙ ap (take (pupil .width)) (drop-at (stands .before r) (t ++ x) at (stands .long r)) ∙ take-at t x (pupil .width) l
+
+  -- and what follows the contents
+  put-then : (r : Record) (t x : List ℕ) → put r t ++ x ≡ stands .before r ++ (t ++ (stands .behind r ++ x))
+  put-then r t x = append-assoc (stands .before r) (t ++ stands .behind r) x ∙ ap (λ (y : List ℕ). stands .before r ++ y) (append-assoc t (stands .behind r) x)
+
+  put-over : (r : Record) (s t : List ℕ) → length s ≡ pupil .width → length t ≡ pupil .width → over (put r s) at t ≡ put r t
+  put-over r s t k l =
+      let b = stands .before r in
+      let x = stands .behind r in
+      let long : length (put r s) ≡ at + (length t + length x) =
+      length-append b (s ++ x) ∙ ap₂ _+_ (stands .long r) (length-append s x ∙ ap (λ (n : ℕ). n + length x) (k ∙ sym l)) in
+      over-fits (put r s) t at (omega (arith, long))
+      ∙ ap₂ (λ (y z : List ℕ). y ++ (t ++ z)) (take-at b (s ++ x) at (stands .long r))
+      (ap (λ (n : ℕ). drop (n + length t) (put r s)) (sym (stands .long r)) ∙ drop-append-add b (s ++ x) (length t) ∙ drop-at s x (length t) (k ∙ sym l))
+
+  print-is : (r : Record) → form .print r ≡ put r (pupil .print (r .figures .pupil))
+  print-is r = ap (λ (l : List (List ℕ)). getD l 0 []) (stands .spelt r)
+
+  -- a record whose pupil is 0 goes out with plus
+  print-plus : (r : Record) → r .figures .pupil ≡ pos 0 → form .print r ≡ put r plus
+  print-plus r z = print-is r ∙ ap (put r) (ap (pupil .print) z ∙ zeros .sent)
+
+  -- and its other spelling has minus there
+  minus-put : (r : Record) → r .figures .pupil ≡ pos 0 → over (form .print r) at minus ≡ put r minus
+  minus-put r z = ap (λ (s : List ℕ). over s at minus) (print-plus r z) ∙ put-over r plus minus plus-long minus-long
+
+  other : (r : Record) → map (put r) (zeroToo minus (r .figures .pupil)) ≡ zeroToo (over (form .print r) at minus) (r .figures .pupil)
+  other r = told (eqb (size (r .figures .pupil)) 0) (λ y. rw (y, minus-put r (zero-of _ y))) (λ n. rw n)
+
+  spelt : (r : Record) → spellings form r ≡ form .print r ∷ zeroToo (over (form .print r) at minus) (r .figures .pupil)
+  spelt r = stands .spelt r ∙ ap (map (put r)) (zeros .spelt (r .figures .pupil)) ∙ ap₂ _∷_ (sym (print-is r)) (other r)
+
+  minus-spells : (r : Record) → r .figures .pupil ≡ pos 0 → over (form .print r) at minus ∈ spellings form r
+  minus-spells r z =
+      let s = over (form .print r) at minus in
+      subst (λ (l : List (List ℕ)). s ∈ l) (sym (spelt r)) (inr (too-in s refl z))
+
+  -- the pupil's bytes, where nothing wrong is sent
+  print-field : (r : Record) → recordLowest r ≡ 0 → fieldOf places 10 (form .print r) ≡ pupil .print (r .figures .pupil)
+  print-field r h = ap (fieldOf places 10) (print-is r) ∙ put-field r _ _ (zeros .exact .long _ (stands .low r h))
+
+  never-minus : (r : Record) → recordLowest r ≡ 0 → fieldOf places 10 (form .print r) ≢ minus
+  never-minus r h e =
+      let z = r .figures .pupil in
+      let m : pupil .print z ≡ minus = sym (print-field r h) ∙ e in
+      let g : got z ≡ got (pos 0) = sym (zeros .exact .back z (stands .low r h)) ∙ ap (pupil .parse) m ∙ of-zero minus (inr (inl refl)) .1 in
+      let zero : z ≡ pos 0 = cc in
+      differ (sym (zeros .sent) ∙ ap (pupil .print) (sym zero) ∙ m)
+
+  module _ (checksum : Bool) (m : List ℕ) (r : Record) (e : readOf form checksum m ≡ accepted r) where
+    abbrev z : ℤ
+    z = r .figures .pupil
+
+    sendable : form .lowest r ≡ 0
+    sendable = reads-only form exact checksum m r e .0
+
+    abbrev sent : recordLowest r ≡ 0
+    sent = sym (same r) ∙ sendable
+
+    -- an accepted message is the writer's, or has minus zero in the pupil's place
+    read-so : {C : Type 0} → (m ≡ messageOf form checksum r → C) → (z ≡ pos 0 → m ≡ framed checksum (put r minus) → C) → C
+    read-so {C} own other =
+        let s = in-map (framed checksum) (spellings form r) (reads-only form exact checksum m r e .1) in
+        let p = in-map (put r) (spellings pupil z) (subst (λ (l : List (List ℕ)). s .0 ∈ l) (stands .spelt r) (s .1)) in
+        by (p .0) (s .2 ∙ ap (framed checksum) (p .2)) (subst (λ (l : List (List ℕ)). p .0 ∈ l) (zeros .spelt z) (p .1))
+      where
+        by : (t : List ℕ) → m ≡ framed checksum (put r t) → (t ≡ pupil .print z) ⊎ (t ∈ zeroToo minus z) → C
+        by t f (inl w) = own (f ∙ ap (framed checksum) (ap (put r) w ∙ sym (print-is r)))
+        by t f (inr w) = let k = in-too minus z w in other (k .1) (f ∙ ap (λ (x : List ℕ). framed checksum (put r x)) (k .0))
+
+    -- the writer's message has no minus zero, and the other has
+    own-field : m ≡ messageOf form checksum r → fieldOf places 10 m ≢ minus
+    own-field k f =
+        let t = pupil .print z in
+        let x = ending checksum (form .print r) in
+        let own : fieldOf places 10 m ≡ t = ap (fieldOf places 10) (k ∙ ap (λ (s : List ℕ). s ++ x) (print-is r) ∙ put-then r t x) ∙ put-field r t _ (zeros .exact .long z (stands .low r sent)) in
+        never-minus r sent (print-field r sent ∙ sym own ∙ f)
+
+    other-field : m ≡ framed checksum (put r minus) → fieldOf places 10 m ≡ minus
+    other-field k = ap (fieldOf places 10) (k ∙ put-then r minus (ending checksum (put r minus))) ∙ put-field r minus _ minus-long
+
+    reads-zero : fieldOf places 10 m ≡ minus → z ≡ pos 0
+    reads-zero f = read-so (λ k. absurd (own-field k f)) (λ o k. o)
+
+    comes-same : fieldOf places 10 m ≢ minus → messageOf form checksum r ≡ m
+    comes-same n = read-so (λ k. sym k) (λ o k. absurd (n (other-field k)))
+
+    comes-plus : fieldOf places 10 m ≡ minus → messageOf form checksum r ≡ framed checksum (over (take (form .width) m) at plus)
+    comes-plus f =
+        read-so
+        (λ k. absurd (own-field k f))
+        (λ o k.
+        let p = print-plus r o in
+        let back : over (put r minus) at plus ≡ put r plus = put-over r minus plus minus-long plus-long in
+        let long : length (put r minus) ≡ form .width = sym (length-over (put r minus) plus at) ∙ ap length (back ∙ sym p) ∙ exact .long r sendable in
+        let contents : take (form .width) m ≡ put r minus = ap (take (form .width)) k ∙ take-at (put r minus) (ending checksum (put r minus)) (form .width) long in
+        ap (framed checksum) (p ∙ sym back ∙ ap (λ (s : List ℕ). over s at plus) (sym contents)))
+
+  accepts : (checksum : Bool) (m : List ℕ) (r : Record) → (readOf form checksum m ≡ accepted r) ↔
+      ((recordLowest r ≡ 0) × ((m ≡ messageOf form checksum r) ⊎ ((r .figures .pupil ≡ pos 0) × (m ≡ framed checksum (over (form .print r) at minus)))))
+  accepts checksum m r = (
+    λ e. (sent checksum m r e, read-so checksum m r e inl (λ o k. inr (o, k ∙ ap (framed checksum) (sym (minus-put r o))))),
+    λ h. exactly form exact checksum m r .1 (same r ∙ h .0, by (h .1)),
+  )
+    where
+      by : (m ≡ messageOf form checksum r) ⊎ ((r .figures .pupil ≡ pos 0) × (m ≡ framed checksum (over (form .print r) at minus))) → m ∈ messagesOf form checksum r
+      by (inl k) = inl k
+      by (inr k) = as-member (messagesOf form checksum r) (k .1) (map-in (framed checksum) (spellings form r) _ (minus-spells r (k .0)))
+
+  -- field 10 with minus zero stands so in a spelling of a sendable record
+  never-6 : (checksum : Bool) (m : List ℕ) → fieldOf places 10 m ≡ minus → readOf form checksum m ≢ refused (Contents 10)
+  never-6 checksum m f e =
+      let q = refuses form recordLowest Field w places blames same wide .read-when checksum m (Contents 10) .0 e in
+      let b = q .0 in
+      let long = contents-long checksum w m (q .2 ∙ sym (ending-by w checksum)) b (q .1) ∙ sym wide in
+      let contents : take (form .width) m ≡ b = ap (take (form .width)) (q .1) ∙ take-at b (ending checksum b) (form .width) long in
+      let s = over (form .print zeroRecord) at minus in
+      q .3 .unspelt s (zeroRecord, zero-sendable, minus-spells zeroRecord refl)
+      (ap (fieldOf places 10) (sym contents) ∙ sym (blames .within m 10) ∙ f
+      ∙ sym (ap (fieldOf places 10) (minus-put zeroRecord refl) ∙ put-field zeroRecord minus _ minus-long))
+
+  minus-zero : MinusZero form places at plus minus
+  minus-zero = record {
+    accepts = accepts;
+    spelt = spelt;
+    reads-zero = reads-zero;
+    never-6 = never-6;
+    sends-plus = λ r z. ap (fieldOf places 10) (print-plus r z) ∙ put-field r plus _ plus-long;
+    never-minus = never-minus;
+    comes-plus = comes-plus;
+    comes-same = comes-same;
+  }
+
+pub text-zero : MinusZero textForm textPlaces 54 plusText minusText
+text-zero =
+    minus-zero textForm pupilText textPlaces textLength 54 plusText minusText text-form-blames text-form-width text-lowest text-zeros text-at
+    (λ e. let k : 43 ≡ 45 = ap (λ (s : List ℕ). getD s 1 0) e in omega arith)
+
+pub packed-zero : MinusZero packedForm packedPlaces 25 plusPacked minusPacked
+packed-zero =
+    minus-zero packedForm pupilPacked packedPlaces packedLength 25 plusPacked minusPacked packed-form-blames packed-form-width packed-lowest packed-zeros packed-at
+    (λ e. let k : 64 ≡ 96 = ap (λ (s : List ℕ). getD s 0 0) e in omega arith)
