@@ -21,27 +21,34 @@ use Rattle.codec.specs.Codec.{Got, got, wrong, Codec, spellings, each, p
 use Rattle.codec.proofs.Spellings.{each-in, in-each, all-in, in-all}
 use Rattle.codec.proofs.Texts.{text-long, text-printable, text-fine}
 
+-- each spelling of a sendable value is as wide as the codec, and is read as the value
+abbrev pub Reads : {A : Type 0} → Codec A → Type 0
+Reads {A} c = (a : A) (s : List ℕ) → c .lowest a ≡ 0 → s ∈ spellings c a → (length s ≡ c .width) × (c .parse s ≡ got a)
+
+-- nothing else is read
+abbrev pub Sound : {A : Type 0} → Codec A → Type 0
+Sound {A} c = (s : List ℕ) (a : A) → length s ≡ c .width → c .parse s ≡ got a → (c .lowest a ≡ 0) × (s ∈ spellings c a)
+
 pub record Exact {A : Type 0} (c : Codec A) : Type 0 where
+  -- of what is written
   pub long : (a : A) → c .lowest a ≡ 0 → length (c .print a) ≡ c .width
   pub back : (a : A) → c .lowest a ≡ 0 → c .parse (c .print a) ≡ got a
-  -- the same of the other spellings
+  -- of the other spellings
   pub others : (a : A) (s : List ℕ) → c .lowest a ≡ 0 → s ∈ c .also a → (length s ≡ c .width) × (c .parse s ≡ got a)
-  pub sound : (s : List ℕ) (a : A) → length s ≡ c .width → c .parse s ≡ got a → (c .lowest a ≡ 0) × (s ∈ spellings c a)
+  pub sound : Sound c
 
-module _ {A : Type 0} {c : Codec A} where
-  -- of any spelling, the written one or another
-  pub spelt-read : Exact c → (a : A) (s : List ℕ) → c .lowest a ≡ 0 → s ∈ spellings c a → (length s ≡ c .width) × (c .parse s ≡ got a)
-  spelt-read x a s h (inl e) = (ap length e ∙ x .long a h, ap (c .parse) e ∙ x .back a h)
-  spelt-read x a s h (inr k) = x .others a s h k
+-- of all spellings at once
+pub spelt-read : {A : Type 0} {c : Codec A} → Exact c → Reads c
+spelt-read {c = c} x a s h (inl e) = (ap length e ∙ x .long a h, ap (c .parse) e ∙ x .back a h)
+spelt-read x a s h (inr k) = x .others a s h k
 
-  exact-by : ((a : A) (s : List ℕ) → c .lowest a ≡ 0 → s ∈ spellings c a → (length s ≡ c .width) × (c .parse s ≡ got a)) →
-      ((s : List ℕ) (a : A) → length s ≡ c .width → c .parse s ≡ got a → (c .lowest a ≡ 0) × (s ∈ spellings c a)) → Exact c
-  exact-by reads sound = record {
-    long = λ a h. reads a (c .print a) h (inl refl) .0;
-    back = λ a h. reads a (c .print a) h (inl refl) .1;
-    others = λ a s h k. reads a s h (inr k);
-    sound = sound;
-  }
+exact-by : {A : Type 0} {c : Codec A} → Reads c → Sound c → Exact c
+exact-by {A} {c} reads sound = record {
+  long = λ a h. reads a (c .print a) h (inl refl) .0;
+  back = λ a h. reads a (c .print a) h (inl refl) .1;
+  others = λ a s h k. reads a s h (inr k);
+  sound = sound;
+}
 
 -- ---- what the small words say
 

@@ -34,7 +34,7 @@ use Rattle.record.specs.Places.{textPlaces, packedPlaces}
 use Rattle.record.specs.declared.Record.{Record}
 use Rattle.record.proofs.Exact.{text-form-blames, packed-form-blames, text-lowest, packed-lowest, text-form-width, packed-form-width}
 use Rattle.record.proofs.PupilAt.{zeroRecord, zero-sendable, PupilAt, text-at, packed-at}
-use Rattle.demand2.specs.MinusZero.{MinusZero}
+use Rattle.demand2.specs.MinusZero.{Message, MinusZero}
 
 module _ (form : Codec Record) (pupil : Codec ℤ) (places : List Place) (w at : ℕ) (plus minus : List ℕ) (blames : Blames form 0 places) (wide : form .width ≡ w)
     (same : (r : Record) → form .lowest r ≡ recordLowest r) (zeros : TwoZeros pupil plus minus) (stands : PupilAt form pupil places at) (differ : plus ≢ minus) where
@@ -94,7 +94,7 @@ module _ (form : Codec Record) (pupil : Codec ℤ) (places : List Place) (w at :
       let s = over (form .print r) at minus in
       subst (λ (l : List (List ℕ)). s ∈ l) (sym (spelt r)) (inr (too-in s refl z))
 
-  -- the pupil's bytes, where nothing wrong is sent
+  -- the pupil's bytes, where it may be sent
   print-field : (r : Record) → recordLowest r ≡ 0 → fieldOf places 10 (form .print r) ≡ pupil .print (r .figures .pupil)
   print-field r h = ap (fieldOf places 10) (print-is r) ∙ put-field r _ _ (zeros .exact .long _ (stands .low r h))
 
@@ -117,15 +117,20 @@ module _ (form : Codec Record) (pupil : Codec ℤ) (places : List Place) (w at :
     sent = sym (same r) ∙ sendable
 
     -- an accepted message is the writer's, or has minus zero in the pupil's place
-    read-so : {C : Type 0} → (m ≡ messageOf form checksum r → C) → (z ≡ pos 0 → m ≡ framed checksum (put r minus) → C) → C
-    read-so {C} own other =
+    read-so : Message form at minus checksum r m
+    read-so =
         let s = in-map (framed checksum) (spellings form r) (reads-only form exact checksum m r e .1) in
-        let p = in-map (put r) (spellings pupil z) (subst (λ (l : List (List ℕ)). s .0 ∈ l) (stands .spelt r) (s .1)) in
-        by (p .0) (s .2 ∙ ap (framed checksum) (p .2)) (subst (λ (l : List (List ℕ)). p .0 ∈ l) (zeros .spelt z) (p .1))
+        by (s .0) (s .2) (subst (λ (l : List (List ℕ)). s .0 ∈ l) (spelt r) (s .1))
       where
-        by : (t : List ℕ) → m ≡ framed checksum (put r t) → (t ≡ pupil .print z) ⊎ (t ∈ zeroToo minus z) → C
-        by t f (inl w) = own (f ∙ ap (framed checksum) (ap (put r) w ∙ sym (print-is r)))
-        by t f (inr w) = let k = in-too minus z w in other (k .1) (f ∙ ap (λ (x : List ℕ). framed checksum (put r x)) (k .0))
+        by : (s : List ℕ) → m ≡ framed checksum s → (s ≡ form .print r) ⊎ (s ∈ zeroToo (over (form .print r) at minus) z) → Message form at minus checksum r m
+        by s f (inl k) = inl (f ∙ ap (framed checksum) k)
+        by s f (inr k) = let o = in-too _ z k in inr (o .1, f ∙ ap (framed checksum) (o .0))
+
+    either : {C : Type 0} → (m ≡ messageOf form checksum r → C) → (z ≡ pos 0 → m ≡ framed checksum (put r minus) → C) → C
+    either {C} f g = by read-so where
+      by : Message form at minus checksum r m → C
+      by (inl k) = f k
+      by (inr (o, k)) = g o (k ∙ ap (framed checksum) (minus-put r o))
 
     -- the writer's message has no minus zero, and the other has
     own-field : m ≡ messageOf form checksum r → fieldOf places 10 m ≢ minus
@@ -139,14 +144,14 @@ module _ (form : Codec Record) (pupil : Codec ℤ) (places : List Place) (w at :
     other-field k = ap (fieldOf places 10) (k ∙ put-then r minus (ending checksum (put r minus))) ∙ put-field r minus _ minus-long
 
     reads-zero : fieldOf places 10 m ≡ minus → z ≡ pos 0
-    reads-zero f = read-so (λ k. absurd (own-field k f)) (λ o k. o)
+    reads-zero f = either (λ k. absurd (own-field k f)) (λ o k. o)
 
     comes-same : fieldOf places 10 m ≢ minus → messageOf form checksum r ≡ m
-    comes-same n = read-so (λ k. sym k) (λ o k. absurd (n (other-field k)))
+    comes-same n = either (λ k. sym k) (λ o k. absurd (n (other-field k)))
 
     comes-plus : fieldOf places 10 m ≡ minus → messageOf form checksum r ≡ framed checksum (over (take (form .width) m) at plus)
     comes-plus f =
-        read-so
+        either
         (λ k. absurd (own-field k f))
         (λ o k.
         let p = print-plus r o in
@@ -155,16 +160,11 @@ module _ (form : Codec Record) (pupil : Codec ℤ) (places : List Place) (w at :
         let contents : take (form .width) m ≡ put r minus = ap (take (form .width)) k ∙ take-at (put r minus) (ending checksum (put r minus)) (form .width) long in
         ap (framed checksum) (p ∙ sym back ∙ ap (λ (s : List ℕ). over s at plus) (sym contents)))
 
-  accepts : (checksum : Bool) (m : List ℕ) (r : Record) → (readOf form checksum m ≡ accepted r) ↔
-      ((recordLowest r ≡ 0) × ((m ≡ messageOf form checksum r) ⊎ ((r .figures .pupil ≡ pos 0) × (m ≡ framed checksum (over (form .print r) at minus)))))
-  accepts checksum m r = (
-    λ e. (sent checksum m r e, read-so checksum m r e inl (λ o k. inr (o, k ∙ ap (framed checksum) (sym (minus-put r o))))),
-    λ h. exactly form exact checksum m r .1 (same r ∙ h .0, by (h .1)),
-  )
-    where
-      by : (m ≡ messageOf form checksum r) ⊎ ((r .figures .pupil ≡ pos 0) × (m ≡ framed checksum (over (form .print r) at minus))) → m ∈ messagesOf form checksum r
-      by (inl k) = inl k
-      by (inr k) = as-member (messagesOf form checksum r) (k .1) (map-in (framed checksum) (spellings form r) _ (minus-spells r (k .0)))
+  accepts : (checksum : Bool) (m : List ℕ) (r : Record) → (readOf form checksum m ≡ accepted r) ↔ ((recordLowest r ≡ 0) × Message form at minus checksum r m)
+  accepts checksum m r = (λ e. (sent checksum m r e, read-so checksum m r e), λ h. exactly form exact checksum m r .1 (same r ∙ h .0, by (h .1))) where
+    by : Message form at minus checksum r m → m ∈ messagesOf form checksum r
+    by (inl k) = inl k
+    by (inr (o, k)) = as-member (messagesOf form checksum r) k (map-in (framed checksum) (spellings form r) _ (minus-spells r o))
 
   -- field 10 with minus zero stands so in a spelling of a sendable record
   never-6 : (checksum : Bool) (m : List ℕ) → fieldOf places 10 m ≡ minus → readOf form checksum m ≢ refused (Contents 10)

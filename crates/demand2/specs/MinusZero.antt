@@ -18,10 +18,14 @@ use Rattle.pupil.specs.Pupil.{zeroToo}
 use Rattle.record.specs.Record.{recordLowest}
 use Rattle.record.specs.declared.Record.{Record}
 
+-- the writer's message for r, or, where the pupil is 0, the same with minus zero in the pupil's place, under its own checksum
+abbrev pub Message : Codec Record → ℕ → List ℕ → Bool → Record → List ℕ → Type 0
+Message form at minus checksum r m =
+    (m ≡ messageOf form checksum r) ⊎ ((r .figures .pupil ≡ pos 0) × (m ≡ framed checksum (over (form .print r) at minus)))
+
 pub record MinusZero (form : Codec Record) (places : List Place) (at : ℕ) (plus minus : List ℕ) : Type 0 where
-  -- "From now on readers accept the writers' messages and these two spellings", one in each form: under its own checksum, where the pupil is 0
-  pub accepts : (checksum : Bool) (m : List ℕ) (r : Record) → (readOf form checksum m ≡ accepted r) ↔
-      ((recordLowest r ≡ 0) × ((m ≡ messageOf form checksum r) ⊎ ((r .figures .pupil ≡ pos 0) × (m ≡ framed checksum (over (form .print r) at minus)))))
+  -- "From now on readers accept the writers' messages and these two spellings", one in each form
+  pub accepts : (checksum : Bool) (m : List ℕ) (r : Record) → (readOf form checksum m ≡ accepted r) ↔ ((recordLowest r ≡ 0) × Message form at minus checksum r m)
   -- these are the spellings of a record by which 'accepts exactly' is said of every codec
   pub spelt : (r : Record) → spellings form r ≡ form .print r ∷ zeroToo (over (form .print r) at minus) (r .figures .pupil)
   -- "The readers must take both as 0", and as nothing else
