@@ -266,6 +266,29 @@ impl Test {
         self.read(form, &m, told, room);
     }
 
+    /// A pupil of the edges, as it is or damaged: under the checksum of another pupil, of plus zero or its own.
+    fn random_pupil(&mut self, form: &Form, plus: &[u8]) {
+        let with_sum = self.random.flag();
+        let mut m = (form.right)(&mut self.random, with_sum);
+        if self.random.flag() {
+            m = with_part(&m, form, 10, plus);
+            reseal(&mut m, with_sum);
+        }
+        let tries = form.edges.iter().find(|(part, _)| *part == 10).unwrap().1;
+        m = with_part(&m, form, 10, self.random.pick(tries));
+        let place = part_start(form, 10) + self.random.below(form.parts[9]);
+        match self.random.below(4) {
+            0 => m[place] = self.random.byte(),
+            1 => m[place] ^= 1 << self.random.below(8),
+            _ => {}
+        }
+        if self.random.flag() {
+            reseal(&mut m, with_sum);
+        }
+        let room = self.room(form.output);
+        self.read(form, &m, with_sum, room);
+    }
+
     fn random_convert(&mut self) {
         let random = &mut self.random;
         let field = match random.below(8) {
@@ -484,6 +507,8 @@ fn main() {
         for form in [TEXT, PACKED, FIXED] {
             test.random_read(&form);
         }
+        test.random_pupil(&TEXT, b"E+000");
+        test.random_pupil(&PACKED, b"\x40\x40");
         test.random_convert();
         test.random_checksum();
     }
