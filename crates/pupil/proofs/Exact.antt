@@ -209,7 +209,7 @@ field-says : (below : Bool) (n : ℕ) → pupilSays (signedField below n) ≡ pu
 unfolding pupilSays signedField passed
 field-says below n = told (leb n 999) (λ y. rw y) (λ m. rw m)
 
-code-says : (f : Field) → pupilSays (codeIn f) ≡ chained (λ k. pupilOf (eqb (k / 2048) 1) (k % 2048)) (fieldSays 10 f)
+code-says : (f : Field) → pupilSays (codeIn f) ≡ chained readCode (fieldSays 10 f)
 unfolding fieldSays chained pupilSays
 code-says (Value k) = field-says (eqb (k / 2048) 1) (k % 2048)
 code-says Wrong = refl
@@ -219,14 +219,14 @@ unfolding readPupilPacked pupilPacked
 packed-read s l = rw (eq-eqb _ _ l) (code-says (readGroups 4095 s))
 
 -- the sign is read: what is left is its size
-signed-by : (x : ℕ) (f : Field) → chained {A = ℕ × ℕ} (λ p. pupilOf (eqb (p .0) 45) (p .1)) (both (got x) (fieldSays 10 f)) ≡ pupilSays (signedIn (eqb x 45) f)
+signed-by : (x : ℕ) (f : Field) → chained readSigned (both (got x) (fieldSays 10 f)) ≡ pupilSays (signedIn (eqb x 45) f)
 unfolding both chained fieldSays pupilSays
 signed-by x (Value n) = sym (field-says (eqb x 45) n)
 signed-by x Wrong = refl
 
 five : (a x : ℕ) (f : Field) →
     pupilSays (cond (eqb a 69 && isSign x) (signedIn (eqb x 45) f) signed.Wrong)
-    ≡ cond (eqb a 69) (chained {A = ℕ × ℕ} (λ p. pupilOf (eqb (p .0) 45) (p .1)) (both (passed (isSign x) 10 x) (fieldSays 10 f))) (wrong 10)
+    ≡ cond (eqb a 69) (chained readSigned (both (passed (isSign x) 10 x) (fieldSays 10 f))) (wrong 10)
 unfolding passed both chained pupilSays
 five a x f =
     told (eqb a 69)

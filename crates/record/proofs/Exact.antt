@@ -4,20 +4,22 @@ use Prim.Native.Nat.{ℕ, suc, _<_, _≤_, _^_}
 use mathlib.Core.List.{[], _∷_, _++_}
 use mathlib.Core.Path.{_≡_, refl}
 use native.Mathlib.Omega.{arith}
-use Rattle.digits.specs.Digits.{widest}
+use lib.ListN.{length, length-append}
+use Rattle.digits.specs.Digits.{digits, widest}
 use Rattle.codec.specs.Codec.{number}
 use Rattle.codec.specs.Places.{endToEnd, further}
 use Rattle.codec.proofs.Exact.{Exact}
 use Rattle.codec.proofs.Blames.{Alone, Blames, digits-alone, number-alone, text-alone, tagged-alone, alone-blames, ⊗-blames, iso-blames}
 use Rattle.pointed.specs.Pointed.{pointed}
 use Rattle.pointed.proofs.Exact.{pointed-alone}
-use Rattle.stop.specs.Stop.{stop, pair}
+use Rattle.stop.specs.Stop.{stopText, stop, pair}
 use Rattle.stop.specs.Places.{pairPlaces}
+use Rattle.stop.proofs.Exact.{stop-long}
 use Rattle.stop.proofs.Blames.{stop-alone, pair-blames}
 use Rattle.pupil.specs.Pupil.{pupilText, pupilPacked}
 use Rattle.pupil.proofs.Exact.{text-alone as pupil-text, packed-alone as pupil-packed}
 use Rattle.record.specs.Record.{topDistance, frontLowest, middleLowest, backLowest, figuresLowest, recordLowest}
-use Rattle.record.specs.Forms.{frontText, middleText, backText, frontPacked, middlePacked, backPacked, serial, recordOf, partsOf, textLength, packedLength, textForm, packedForm}
+use Rattle.record.specs.Forms.{Front, frontText, middleText, backText, frontPacked, middlePacked, backPacked, serial, recordOf, partsOf, textLength, packedLength, textForm, packedForm}
 use Rattle.record.specs.Places.{textPlaces, packedPlaces}
 use Rattle.record.specs.declared.Record.{Record}
 
@@ -97,6 +99,10 @@ text-lowest r = refl
 pub packed-lowest : (r : Record) → packedForm .lowest r ≡ recordLowest r
 unfolding packedForm frontPacked middlePacked backPacked serial pair pupilPacked recordLowest figuresLowest frontLowest middleLowest backLowest
 packed-lowest r = refl
+
+pub front-text-long : (p : Front) → length (frontText .print p) ≡ 19
+unfolding frontText stop digits
+front-text-long p = rw (length-append (stopText (p .1 .1 .0)), stop-long)
 
 pub text-form-width : textForm .width ≡ textLength
 unfolding textForm frontText middleText backText serial stop pointed pupilText

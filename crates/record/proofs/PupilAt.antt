@@ -11,13 +11,13 @@ use Rattle.codec.specs.Codec.{Codec, failing, first, textOk, number, tagged, _�
 use Rattle.codec.specs.Places.{Place, fieldOf}
 use Rattle.codec.proofs.Exact.{first-zero}
 use Rattle.pointed.specs.Pointed.{pointed}
-use Rattle.stop.specs.Stop.{stopOk, stop, stopText, pair}
-use Rattle.stop.proofs.Exact.{stop-long}
+use Rattle.stop.specs.Stop.{stopOk, stop, pair}
 use Rattle.pupil.specs.Pupil.{pupilOk, pupilText, pupilPacked}
 use Rattle.record.specs.Record.{frontLowest, middleLowest, backLowest, figuresLowest, recordLowest, noFigures}
 use Rattle.record.specs.Places.{textPlaces, packedPlaces}
 use Rattle.record.specs.Forms.{Front, Middle, frontText, middleText, backText, frontPacked, middlePacked, backPacked, serial, frontOf, middleOf, recordOf, partsOf, textForm, packedForm}
 use Rattle.record.specs.declared.Record.{Record}
+use Rattle.record.proofs.Exact.{front-text-long}
 
 -- a record that may be sent, with its pupil at zero
 abbrev pub zeroRecord : Record
@@ -71,10 +71,8 @@ module _ (front : Codec Front) (middle : Codec Middle) (view : Codec ℕ) (pupil
   }
 
 before-text : (f : Front) (m : Middle) (v : ℕ) → length (frontText .print f ++ (middleText .print m ++ tagged 86 9 (pointed 9 3 4095) .print v)) ≡ 54
-unfolding frontText middleText stop pointed digits
-before-text f m v =
-    let front : length (frontText .print f) ≡ 19 = rw (length-append (stopText (f .1 .1 .0)), stop-long) in
-    length-append (frontText .print f) _ ∙ ap (λ (n : ℕ). n + 35) front
+unfolding middleText pointed digits
+before-text f m v = length-append (frontText .print f) _ ∙ ap (λ (n : ℕ). n + 35) (front-text-long f)
 
 pub text-at : PupilAt textForm pupilText textPlaces 54
 unfolding textForm frontText middleText backText stop pointed pupilText textPlaces fieldOf

@@ -4,16 +4,11 @@ use mathlib.Core.Path.{_≡_, refl}
 use lib.ListN.{length, length-append}
 use Rattle.digits.specs.Digits.{digits}
 use Rattle.pointed.specs.Pointed.{pointed}
-use Rattle.stop.specs.Stop.{stop, stopText}
-use Rattle.stop.proofs.Exact.{stop-long}
 use Rattle.pupil.specs.Pupil.{pupilText}
-use Rattle.record.specs.Forms.{Front, Middle, Back, frontText, middleText, backText, serial, textForm, textLength, frontOf, middleOf, backOf}
+use Rattle.record.specs.Forms.{Middle, Back, frontText, middleText, backText, serial, textForm, textLength, frontOf, middleOf, backOf}
 use Rattle.record.specs.declared.Record.{Record}
+use Rattle.record.proofs.Exact.{front-text-long}
 use Rattle.serial.proofs.Field.{serial-long}
-
-pub front-long : (p : Front) → length (frontText .print p) ≡ 19
-unfolding frontText stop digits
-front-long p = rw (length-append (stopText (p .1 .1 .0)), stop-long)
 
 pub middle-long : (p : Middle) → length (middleText .print p) ≡ 29
 unfolding middleText digits
@@ -30,4 +25,4 @@ unfolding textForm
 groups-of r = rw (append-assoc, append-assoc)
 
 pub record-long : (r : Record) → length (r .serial) ≡ 9 → length (textForm .print r) ≡ textLength
-record-long r l = rw (← groups-of r) (simp (length-append, front-long, middle-long, back-long, serial-long (r .serial) l))
+record-long r l = rw (← groups-of r) (simp (length-append, front-text-long, middle-long, back-long, serial-long (r .serial) l))

@@ -4,8 +4,9 @@ use native.Mathlib.Omega.{arith}
 use lib.ListN.{length}
 use Rattle.laws.specs.Over.{over}
 use Rattle.laws.proofs.OverLaws.{over-short, last, next, run}
+use Rattle.record.proofs.Exact.{front-text-long}
 use Rattle.serial.proofs.Field.{serial-long}
-use Rattle.text_writer.proofs.Written.{front-long, middle-long, back-long, groups-of, record-long}
+use Rattle.text_writer.proofs.Written.{middle-long, back-long, groups-of, record-long}
 use borrow.Author.Needs.{needs}
 use Rattle.text_writer.proofs.put_text_record.Statement.{statement}
 use Rattle.text_writer.proofs.put_text_record.Tie as tie
@@ -43,7 +44,7 @@ returns-2 c =
     let e = w1 .before .before .before .before in
     let b = e .before .before in
     run
-    (next _ (w1 .put-front .ensures) (front-long _)
+    (next _ (w1 .put-front .ensures) (front-text-long _)
     (next _ (w2 .put-middle .ensures) (middle-long _)
     (next _ (w3 .put-back .ensures) (back-long _)
     (last _ (w4 .put-serial .ensures) (serial-long _ (nine b))))))
