@@ -22,6 +22,7 @@ const INPUTS: usize = 1024;
 const ROUNDS: usize = 31;
 const ROUND: Duration = Duration::from_millis(4);
 const ROOM: usize = 128;
+const SERIAL: &[u8] = b"4050.0093";
 
 // ---- inputs
 
@@ -221,6 +222,15 @@ fn main() {
             message(|out| put(&r.fields, &r.serial, r.with_sum, out), r.with_sum)
         })
     };
+    let plain_lines = |put: fn(&Fields, &[u8; 9], &mut [u8]) -> usize| {
+        messages(move |random| {
+            let mut r = record(random);
+            r.fields[10] = 10 * (r.fields[10] / 10);
+            message(|out| put(&r.fields, &r.serial, out), false)
+        })
+    };
+    let old_lines = plain_lines(|fields, _, out| plain::put_old(fields, out));
+    let new_lines = plain_lines(|fields, serial, out| plain::put_text(fields, serial, false, out));
     let texts = written(plain::put_text);
     let packed = written(plain::put_packed);
     let fixed_messages = messages(|random| {
@@ -241,6 +251,20 @@ fn main() {
         &texts,
         |m, out| of_ours(heron::read_text(&m.bytes, m.with_sum, out)),
         |m, out| of_plain(plain::read_text(&m.bytes, m.with_sum, out)),
+    );
+    entry(
+        &mode,
+        "old_to_new",
+        &old_lines,
+        |m, out| of_ours(heron::old_to_new(&m.bytes, SERIAL, out)),
+        |m, out| of_plain(plain::old_to_new(&m.bytes, SERIAL, out)),
+    );
+    entry(
+        &mode,
+        "new_to_old",
+        &new_lines,
+        |m, out| of_ours(heron::new_to_old(&m.bytes, out)),
+        |m, out| of_plain(plain::new_to_old(&m.bytes, out)),
     );
     entry(
         &mode,

@@ -40,6 +40,17 @@ reader!(read_packed, heron_read_packed);
 reader!(read_fixed, heron_read_fixed);
 
 #[rustfmt::skip]
+pub fn old_to_new(message: &[u8], serial: &[u8], out: &mut [u8]) -> Answer {
+    unsafe {
+        heron_old_to_new(message.as_ptr(), message.len(), serial.as_ptr(), serial.len(), out.as_mut_ptr(), out.len())
+    }
+}
+
+pub fn new_to_old(message: &[u8], out: &mut [u8]) -> Answer {
+    unsafe { heron_new_to_old(message.as_ptr(), message.len(), out.as_mut_ptr(), out.len()) }
+}
+
+#[rustfmt::skip]
 pub fn write_fixed(f: &Fixed, checksum: bool, out: &mut [u8]) -> Answer {
     unsafe {
         heron_write_fixed(

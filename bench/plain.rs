@@ -10,6 +10,7 @@ pub enum Refusal {
     Checksum,
     Contents(u32),
     Setting(u32),
+    Lost,
 }
 
 impl Refusal {
@@ -22,6 +23,7 @@ impl Refusal {
             Refusal::Checksum => (5, 0),
             Refusal::Contents(place) => (6, place.into()),
             Refusal::Setting(item) => (8, item.into()),
+            Refusal::Lost => (11, 0),
         }
     }
 }
@@ -42,6 +44,7 @@ pub struct Fixed<'a> {
 }
 
 const TEXT: usize = 74;
+const OLD: usize = 64;
 const PACKED: usize = 39;
 const FIXED: usize = 65;
 const RECORD_BYTES: usize = 53;
@@ -80,6 +83,10 @@ fn checked<'a>(fields: &Fields, serial: &'a [u8]) -> Result<&'a [u8; 9], Refusal
             return Err(Refusal::Field(field as u32));
         }
     }
+    checked_serial(serial)
+}
+
+fn checked_serial(serial: &[u8]) -> Result<&[u8; 9], Refusal> {
     serial.try_into().ok().filter(|serial: &&[u8; 9]| is_text(&serial[..])).ok_or(Refusal::Field(12))
 }
 
@@ -172,8 +179,8 @@ fn groups(bytes: &[u8]) -> Option<i32> {
 
 const BLANK_TEXT: &[u8; TEXT] = b"D0000000T0000t0.0+0Z0000H0000000N0000000F0000000V000.0E+000z0000S         ";
 
-/// A record in range as a text message; its length.
-pub fn put_text(fields: &Fields, serial: &[u8; 9], with_sum: bool, out: &mut [u8]) -> usize {
+/// Fields in range as text, before the serial.
+fn text_of(fields: &Fields) -> [u8; TEXT] {
     let [focus, aperture, stop, tenth, focal, hyperfocal, near, far, view, pupil, zoom] = *fields;
     let mut text = *BLANK_TEXT;
     put_digits(&mut text[1..8], focus);
@@ -195,6 +202,12 @@ pub fn put_text(fields: &Fields, serial: &[u8; 9], with_sum: bool, out: &mut [u8
     text[55] = if pupil < 0 { b'-' } else { b'+' };
     put_digits(&mut text[56..59], pupil.abs());
     put_digits(&mut text[60..64], zoom);
+    text
+}
+
+/// A record in range as a text message; its length.
+pub fn put_text(fields: &Fields, serial: &[u8; 9], with_sum: bool, out: &mut [u8]) -> usize {
+    let mut text = text_of(fields);
     text[65..].copy_from_slice(serial);
     out[..TEXT].copy_from_slice(&text);
     seal(out, TEXT, with_sum)
@@ -240,10 +253,9 @@ fn after(tag: u8, part: &[u8]) -> Option<&[u8]> {
     part.split_first().filter(|(first, _)| **first == tag).map(|(_, rest)| rest)
 }
 
-#[inline(never)]
-pub fn read_text(message: &[u8], with_sum: bool, out: &mut [u8]) -> Result<usize, Refusal> {
-    let m: &[u8; TEXT] = open(message, with_sum)?;
-    let fields = [
+/// Fields 1 to 11 of a text record's contents, or refusal 6; the zoom as `zoom` reads it behind its tag.
+fn text_fields(m: &[u8], zoom: impl Fn(&[u8]) -> Option<i32>) -> Result<Fields, Refusal> {
+    Ok([
         held(1, after(b'D', &m[..8]).and_then(digits))?,
         held(2, after(b'T', &m[8..13]).and_then(digits))?,
         held(3, after(b't', &m[13..17]).and_then(text_stop))?,
@@ -254,8 +266,14 @@ pub fn read_text(message: &[u8], with_sum: bool, out: &mut [u8]) -> Result<usize
         held(8, after(b'F', &m[40..48]).and_then(digits))?,
         held(9, after(b'V', &m[48..54]).and_then(text_view))?,
         held(10, after(b'E', &m[54..59]).and_then(text_pupil))?,
-        held(11, after(b'z', &m[59..64]).and_then(digits))?,
-    ];
+        held(11, after(b'z', &m[59..64]).and_then(zoom))?,
+    ])
+}
+
+#[inline(never)]
+pub fn read_text(message: &[u8], with_sum: bool, out: &mut [u8]) -> Result<usize, Refusal> {
+    let m: &[u8; TEXT] = open(message, with_sum)?;
+    let fields = text_fields(m, digits)?;
     lay_record(&fields, &m[64..], out)
 }
 
@@ -269,6 +287,46 @@ fn lay_record(fields: &Fields, tagged_serial: &[u8], out: &mut [u8]) -> Result<u
     }
     rest.copy_from_slice(serial);
     Ok(RECORD_BYTES)
+}
+
+// ---- the text record of old zoom firmware
+
+/// Fields in range, with thousandths that divide by ten, as an old line; its length.
+pub fn put_old(fields: &Fields, out: &mut [u8]) -> usize {
+    let mut text = text_of(fields);
+    text[63] = text[62];
+    text[62] = text[61];
+    text[61] = b'.';
+    out[..OLD].copy_from_slice(&text[..OLD]);
+    seal(out, OLD, false)
+}
+
+fn old_zoom(text: &[u8]) -> Option<i32> {
+    match *text {
+        [a, b'.', b, c] => digits(&[a, b, c]).map(|hundredths| 10 * hundredths),
+        _ => None,
+    }
+}
+
+#[inline(never)]
+pub fn old_to_new(message: &[u8], serial: &[u8], out: &mut [u8]) -> Result<usize, Refusal> {
+    let m: &[u8; OLD] = open(message, false)?;
+    let fields = text_fields(m, old_zoom)?;
+    let serial = checked_serial(serial)?;
+    let out = room(out, message_length(TEXT, false))?;
+    Ok(put_text(&fields, serial, false, out))
+}
+
+#[inline(never)]
+pub fn new_to_old(message: &[u8], out: &mut [u8]) -> Result<usize, Refusal> {
+    let m: &[u8; TEXT] = open(message, false)?;
+    let fields = text_fields(m, digits)?;
+    after(b'S', &m[64..]).filter(|serial| is_text(serial)).ok_or(Refusal::Contents(12))?;
+    if fields[10] % 10 != 0 {
+        return Err(Refusal::Lost);
+    }
+    let out = room(out, message_length(OLD, false))?;
+    Ok(put_old(&fields, out))
 }
 
 // ---- the packed record

@@ -1,10 +1,10 @@
 /* hourheron.h: the messages of a Cooke /i lens for a C host. C99 and C++11.
  *
- * Writers and readers of the text record (D), the packed record (Kd) and the fixed data (N), the
- * conversion between 0.1 inch and 1 mm, the checksum, the collector of a received line; for the camera
- * side the cutter of a stream and the recorder. They are proved in Rattle: each takes any input, and a reader
- * accepts exactly the messages that its writer writes, a record's reader also those with minus zero for the
- * entrance pupil, which other makers send.
+ * Writers and readers of the text record (D), the packed record (Kd) and the fixed data (N), text records of
+ * old zoom firmware moved to the present form and back, the conversion between 0.1 inch and 1 mm, the checksum,
+ * the collector of a received line; for the camera side the cutter of a stream and the recorder. They are proved
+ * in Rattle: each takes any input, and a reader accepts exactly the messages that its writer writes, a record's
+ * reader also those with minus zero for the entrance pupil, which other makers send.
  *
  * Every function but a recorder's start answers by value with a number: 0 for done, else a refusal (enum
  * heron_refusal). A refusal writes to no memory that is lent for output, and what does not come with an answer
@@ -26,7 +26,7 @@
 #include <stdint.h>
 #include <string.h>
 
-#define HOURHERON_VERSION "0.6.0"
+#define HOURHERON_VERSION "0.7.0"
 
 /* ---- lengths in bytes */
 
@@ -37,6 +37,9 @@
 #define HERON_PACKED_LEN_CHECKSUM 43
 #define HERON_FIXED_LEN 67
 #define HERON_FIXED_LEN_CHECKSUM 69
+
+/* Of a text record of old zoom firmware with its LF CR. It has no checksum. */
+#define HERON_OLD_LEN 66
 
 /* Enough for any of them. */
 #define HERON_LONGEST 78
@@ -74,6 +77,7 @@ enum heron_refusal {
     HERON_SETTING = 8,  /* a setting out of range: the lowest item */
     HERON_TOO_LONG = 9, /* a message of a stream longer than a cutter holds */
     HERON_FORM = 10,    /* a line of a capture of other form */
+    HERON_LOST = 11,    /* a new line's zoom thousandths do not divide by ten */
     HERON_STATE = 16    /* a handed-in state, collector or cutter that is not valid */
 };
 
@@ -92,6 +96,7 @@ static inline const char *heron_refusal_name(uint32_t number)
     case HERON_SETTING: return "setting out of range";
     case HERON_TOO_LONG: return "message too long";
     case HERON_FORM: return "line of other form";
+    case HERON_LOST: return "thousandths lost";
     case HERON_STATE: return "state not valid";
     default: return "no refusal number";
     }
@@ -251,6 +256,32 @@ heron_answer heron_write_packed(uint32_t focus, uint32_t aperture, uint32_t stop
  * Other makers' minus zero for the entrance pupil, E-000 or 60 40 packed, is read as 0; written again it is plus. */
 heron_answer heron_read_text(const uint8_t *message, size_t len, bool checksum, uint8_t *out, size_t out_len);
 heron_answer heron_read_packed(const uint8_t *message, size_t len, bool checksum, uint8_t *out, size_t out_len);
+
+/* ---- old text records */
+
+/* An old line is a text record of old zoom firmware, HERON_OLD_LEN bytes with its LF CR: as a present one, but without S and
+ * the serial, and with the zoom as z and x.xx, 0.00 to 1.00. Neither carries a checksum here. heron_read_text refuses every
+ * old line by 3. A line of firmware 1.22 has S and x.xx together and is as long as a present one: plain it is refused by 6
+ * with field 11.
+ *
+ * heron_old_to_new writes an old line in the present form to the start of out; bytes past it stay as they were. The zoom's
+ * hundredths times ten are its thousandths, and S and the serial are added. Done: value is HERON_TEXT_LEN. Refused, in this
+ * order:
+ *   3  the line has another length than HERON_OLD_LEN: its length
+ *   4  its last two bytes are not LF CR
+ *   6  contents no old line has: the first wrong field, 1..11; a tag counts to the field after it
+ *   1  with 12: the serial is not HERON_SERIAL_LEN bytes, each 20..7E hex
+ *   2  out shorter than HERON_TEXT_LEN: that
+ * heron_new_to_old writes a present line in the old form to the start of out; bytes past it stay as they were. The serial
+ * is dropped. Done: value is HERON_OLD_LEN. Refused, in this order:
+ *   3, 4, 6  as heron_read_text without checksum mode
+ *   11  the zoom's thousandths do not divide by ten
+ *   2  out shorter than HERON_OLD_LEN: that
+ * Both take minus zero for the entrance pupil, E-000, and write plus. Every other line that is moved comes back as it was:
+ * forward and back, and back and forward with the same serial. */
+heron_answer heron_old_to_new(const uint8_t *message, size_t len, const uint8_t *serial, size_t serial_len,
+                              uint8_t *out, size_t out_len);
+heron_answer heron_new_to_old(const uint8_t *message, size_t len, uint8_t *out, size_t out_len);
 
 /* ---- fixed data */
 

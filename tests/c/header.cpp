@@ -1,4 +1,4 @@
-// The header from C++: a record through both forms and fixed data through theirs, a stream through each cutter and a recorder. Exit
+// The header from C++: a record through both forms, to the old one and back, and fixed data through theirs, a stream through each cutter and a recorder. Exit
 // status 1 if something comes back otherwise.
 #include <hourheron.h>
 
@@ -49,6 +49,16 @@ static bool records(heron_recorder recorder, const heron_fixed &fixed, const her
     return taken.number == HERON_DONE && taken.ended && !taken.opening && heron_record_unpack(out).focus == record.focus;
 }
 
+// A plain text record whose zoom can be moved: to the old form, and to the present one again.
+static bool moves(const heron_record &record)
+{
+    uint8_t message[HERON_LONGEST], old[HERON_OLD_LEN], again[HERON_TEXT_LEN];
+    size_t len = heron_record_to_text(&record, false, message, sizeof message).value;
+    return heron_new_to_old(message, len, old, sizeof old).value == sizeof old &&
+           heron_old_to_new(old, sizeof old, record.serial, sizeof record.serial, again, sizeof again).value == len &&
+           memcmp(again, message, len) == 0;
+}
+
 int main()
 {
     heron_record record = {798, 680, 56, 5, 0, 6123, 711, 909, 273, -23, 0, {'4', '0', '5', '0', '.', '0', '0', '9', '3'}};
@@ -63,7 +73,7 @@ int main()
     written = heron_record_to_packed(&text, false, message, sizeof message);
     if (written.number != HERON_DONE || heron_record_from_packed(message, written.value, false, &packed).number != HERON_DONE)
         return 1;
-    if (!cuts_packed(message, written.value))
+    if (!cuts_packed(message, written.value) || !moves(record))
         return 1;
 
     heron_fixed fixed = {{'s', 'e', 'r', 'i', 'a', 'l', ' ', ' ', '1'}, {}, 'Z', 18, 100, 'b', 95, {'4', '.', '3', '4'}};

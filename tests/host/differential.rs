@@ -10,7 +10,7 @@ mod messages;
 mod random;
 mod tally;
 
-use lens::{Fixed, Record};
+use lens::{Fixed, Record, Refusal};
 use library::Converted;
 use messages::*;
 use random::Random;
@@ -105,6 +105,53 @@ fn any_fixed(random: &mut Random) -> Fixed {
         }
     }
     f
+}
+
+// ---- lines of either form
+
+/// A zoom of either form, in range or a little past it, with a point anywhere, or of any characters.
+fn any_zoom(random: &mut Random) -> Vec<u8> {
+    let mut zoom = match random.below(4) {
+        0 => format!("z{}.{:02}", random.below(2), random.below(100)),
+        _ => format!("z{:04}", random.below(1010)),
+    }
+    .into_bytes();
+    match random.below(4) {
+        0 => zoom[1 + random.below(4)] = random.pick(b"0123456789.:/ xO"),
+        1 => zoom[1..].iter_mut().for_each(|b| *b = random.pick(b"00123456789....x")),
+        _ => {}
+    }
+    zoom
+}
+
+/// A line as it is or damaged, also with a byte doubled, another pupil of zero or another zoom.
+fn any_line(random: &mut Random, form: &Form) -> Vec<u8> {
+    let mut m = (form.right)(random, false);
+    if random.below(8) == 0 {
+        m = with_part(&m, form, 10, random.pick(&[b"E-000", b"E+000", b"E-001", b"E-999"]));
+    }
+    if random.below(6) == 0 {
+        m = with_part(&m, form, 11, &any_zoom(random));
+    }
+    for _ in 0..random.pick(&[0, 0, 0, 0, 0, 1, 1, 2, 3]) {
+        let place = random.below(m.len());
+        match random.below(4) {
+            0 => m.insert(place, m[place]),
+            _ => damage(random, form, &mut m),
+        }
+    }
+    let last = m.len() - 1 - random.below(2);
+    match random.below(12) {
+        0 => m[last] = random.byte(),
+        1 | 2 => {}
+        _ => reseal(&mut m, false),
+    }
+    m
+}
+
+fn moved(length: usize, call: impl Fn(&mut [u8]) -> Outcome) -> Result<Vec<u8>, Refusal> {
+    let mut line = vec![GUARD_BYTE; length];
+    call(&mut line).map(|_| line)
 }
 
 // ---- comparing
@@ -225,6 +272,53 @@ impl Test {
         }
     }
 
+    fn old_to_new(&mut self, line: &[u8], serial: &[u8], room: usize) {
+        self.lend(
+            OLD.reader,
+            room,
+            |out| lens::old_to_new(line, serial, out),
+            |out| library::old_to_new(line, serial, out),
+            || format!("line {} ({} bytes); serial {}", hex(line), line.len(), hex(serial)),
+        );
+    }
+
+    fn new_to_old(&mut self, line: &[u8], room: usize) {
+        self.read(&NEW, line, false, room);
+    }
+
+    /// The library alone: what it moves and moves back is the line again, with plus for minus zero.
+    fn comes_back(&mut self, entry: &'static str, line: &[u8], again: Result<Vec<u8>, Refusal>) {
+        let mut right = line.to_vec();
+        if line[54..59] == *b"E-000" {
+            right[55] = b'+';
+        }
+        self.tallies.count(entry, Ok(0));
+        if again.as_ref() != Ok(&right) {
+            let found = again.map(|line| hex(&line));
+            self.differences.tell(entry, shown_message(line, false), hex(&right), format!("{found:?}"));
+        }
+    }
+
+    /// Forward with this serial and back. A line that is moved is an old one: the D reader refuses it under either setting.
+    fn forward_and_back(&mut self, line: &[u8], serial: &[u8]) {
+        if let Ok(new) = moved(76, |out| library::old_to_new(line, serial, out)) {
+            self.comes_back("forward and back", line, moved(66, |out| library::new_to_old(&new, out)));
+            for with_sum in [false, true] {
+                let mut out = [0; 53];
+                let refused = Err(Refusal { number: 3, value: 66 });
+                let found = library::read_text(line, with_sum, &mut out);
+                self.compare("old line, D reader", refused, found, || shown_message(line, with_sum));
+            }
+        }
+    }
+
+    /// Back and forward with its own serial.
+    fn back_and_forward(&mut self, line: &[u8]) {
+        if let Ok(old) = moved(66, |out| library::new_to_old(line, out)) {
+            self.comes_back("back and forward", line, moved(76, |out| library::old_to_new(&old, &line[65..74], out)));
+        }
+    }
+
     fn convert(&mut self, field: u32, number: i32, unit: u8, wanted: u8) {
         let answer = lens::convert(field, number, unit, wanted);
         let right = match answer {
@@ -289,6 +383,22 @@ impl Test {
         self.read(form, &m, with_sum, room);
     }
 
+    /// Moves a line of either form, as it is or damaged, forward and back.
+    fn random_move(&mut self) {
+        let serial = match self.random.below(4) {
+            0 => wrong_text(&mut self.random, 9),
+            _ => right_text(&mut self.random, 9),
+        };
+        let line = any_line(&mut self.random, &OLD);
+        let room = self.room(OLD.output);
+        self.old_to_new(&line, &serial, room);
+        self.forward_and_back(&line, &serial);
+        let line = any_line(&mut self.random, &NEW);
+        let room = self.room(NEW.output);
+        self.new_to_old(&line, room);
+        self.back_and_forward(&line);
+    }
+
     fn random_convert(&mut self) {
         let random = &mut self.random;
         let field = match random.below(8) {
@@ -348,8 +458,8 @@ impl Test {
     }
 
     /// Every byte of a message as each of the 256, left so and resealed; every length, left so and resealed.
-    fn every_byte_and_length(&mut self, form: &Form) {
-        for with_sum in [false, true] {
+    fn every_byte_and_length(&mut self, form: &Form, settings: &[bool]) {
+        for &with_sum in settings {
             for _ in 0..3 {
                 let right = (form.right)(&mut self.random, with_sum);
                 for place in 0..right.len() {
@@ -415,6 +525,44 @@ impl Test {
             for (item, text) in [(4, format!("N{n:03}")), (5, format!("M{n:03}")), (7, format!("T{:02}", n % 100))] {
                 let m = with_part(&right, &FIXED, item, text.as_bytes());
                 self.read(&FIXED, &m, false, FIXED.output);
+            }
+        }
+    }
+
+    /// Lines of either form moved into every room: right ones, with a wrong serial or with thousandths, and wrong ones.
+    fn every_moved_room(&mut self) {
+        for room in 0..=LONGEST_ROOM {
+            let mut old = right_old(&mut self.random);
+            self.old_to_new(&old, SERIAL, room);
+            self.old_to_new(&old, &SERIAL[1..], room);
+            self.old_to_new(&old, b"4050.009\n", room);
+            old[0] = b'd';
+            self.old_to_new(&old, SERIAL, room);
+            self.old_to_new(&old, b"", room);
+            let new = right_new(&mut self.random);
+            self.new_to_old(&new, room);
+            self.new_to_old(&with_part(&new, &NEW, 11, b"z0005"), room);
+            self.new_to_old(&with_part(&new, &NEW, 11, b"z0.57"), room);
+            self.new_to_old(&with_part(&with_part(&new, &NEW, 11, b"z0005"), &NEW, 12, b"s"), room);
+            self.old_to_new(&new, SERIAL, room);
+            self.new_to_old(&old, room);
+        }
+    }
+
+    /// Every zoom of four digits and points in a line of either form, with every sign of the pupil's zero; what is moved comes
+    /// back.
+    fn every_zoom(&mut self) {
+        let signs = b"0123456789.";
+        for n in 0..11 * 11 * 11 * 11 {
+            let zoom = [b'z', signs[n / 1331], signs[n / 121 % 11], signs[n / 11 % 11], signs[n % 11]];
+            for pupil in [&b"E+000"[..], b"E-000", b"E-001", b"E+999"] {
+                let old = with_part(&with_part(&right_old(&mut self.random), &OLD, 10, pupil), &OLD, 11, &zoom);
+                self.old_to_new(&old, SERIAL, OLD.output);
+                self.forward_and_back(&old, SERIAL);
+                let new = with_part(&with_part(&right_new(&mut self.random), &NEW, 10, pupil), &NEW, 11, &zoom);
+                self.new_to_old(&new, NEW.output);
+                self.back_and_forward(&new);
+                self.read(&TEXT, &new, false, TEXT.output);
             }
         }
     }
@@ -495,9 +643,14 @@ fn main() {
     let mut test = Test { random: Random(seed), tallies: Tallies::default(), differences: Differences::none("differential", seed) };
 
     test.every_room();
+    test.every_moved_room();
     for form in [TEXT, PACKED, FIXED] {
-        test.every_byte_and_length(&form);
+        test.every_byte_and_length(&form, &[false, true]);
     }
+    for form in [OLD, NEW] {
+        test.every_byte_and_length(&form, &[false]);
+    }
+    test.every_zoom();
     test.every_packed_pair();
     test.every_text_number();
     test.every_written_number();
@@ -509,6 +662,7 @@ fn main() {
         }
         test.random_pupil(&TEXT, b"E+000");
         test.random_pupil(&PACKED, b"\x40\x40");
+        test.random_move();
         test.random_convert();
         test.random_checksum();
     }

@@ -28,6 +28,10 @@ extern "C" {
     ) -> Answer;
     pub fn heron_read_text(message: *const u8, len: usize, checksum: bool, out: *mut u8, out_len: usize) -> Answer;
     pub fn heron_read_packed(message: *const u8, len: usize, checksum: bool, out: *mut u8, out_len: usize) -> Answer;
+    pub fn heron_old_to_new(
+        message: *const u8, len: usize, serial: *const u8, serial_len: usize, out: *mut u8, out_len: usize,
+    ) -> Answer;
+    pub fn heron_new_to_old(message: *const u8, len: usize, out: *mut u8, out_len: usize) -> Answer;
     pub fn heron_write_fixed(
         serial: *const u8, serial_len: usize, owner: *const u8, owner_len: usize, kind: u8, focal: u32, maximum: u32,
         letter: u8, transmission: u32, version: *const u8, version_len: usize, checksum: bool, out: *mut u8, out_len: usize,

@@ -100,6 +100,16 @@ pub fn read_fixed(message: &[u8], checksum: bool, out: &mut [u8]) -> Result<usiz
     read_message(heron_read_fixed, message, checksum, out)
 }
 
+pub fn old_to_new(message: &[u8], serial: &[u8], out: &mut [u8]) -> Result<usize, Refusal> {
+    let out_len = out.len();
+    outcome(unsafe { heron_old_to_new(start(message), message.len(), start(serial), serial.len(), start_mut(out), out_len) })
+}
+
+pub fn new_to_old(message: &[u8], out: &mut [u8]) -> Result<usize, Refusal> {
+    let out_len = out.len();
+    outcome(unsafe { heron_new_to_old(start(message), message.len(), start_mut(out), out_len) })
+}
+
 pub fn owner_start(message: &[u8], checksum: bool) -> Result<usize, Refusal> {
     ask_message(heron_owner_start, message, checksum)
 }

@@ -1,4 +1,4 @@
-//! The messages that the test programs make: right ones of the three forms, and damaged ones.
+//! The messages that the test programs make: right ones of the three forms and of old text records, and damaged ones.
 
 use crate::lens::{self, Fixed, Record, Refusal};
 use crate::library;
@@ -69,6 +69,8 @@ pub fn right_fixed(random: &mut Random) -> Fixed {
 
 // ---- the three forms as a reader meets them
 
+pub type Tries = &'static [&'static [u8]];
+
 pub struct Form {
     pub reader: &'static str,
     /// Bytes before the checksum and LF CR.
@@ -78,40 +80,108 @@ pub struct Form {
     /// Widths of the message's fields or items in order, tags counted.
     pub parts: &'static [usize],
     /// A field or item, and what is worth trying in its place.
-    pub edges: &'static [(usize, &'static [&'static [u8]])],
+    pub edges: &'static [(usize, Tries)],
     pub right: fn(&mut Random, bool) -> Vec<u8>,
     pub reference: fn(&[u8], bool, &mut [u8]) -> Outcome,
     pub library: fn(&[u8], bool, &mut [u8]) -> Outcome,
 }
+
+const TEXT_EDGES: [(usize, Tries); 12] = [
+    (1, &[b"D9999999", b"D0000000", b"d0000798", b"D   0798", b"D-000798"]),
+    (2, &[b"T4095", b"T4096", b"T9999", b"t0680"]),
+    (
+        3,
+        &[
+            b"t09.", b"t10.", b"t25.", b"t26.", b"t99.", b"t00.", b"t0.0", b"t9.9", b"t.99", b"t1..", b"t..1", b"t...", b"t100",
+            b"t 8.", b"t 8+", b"t5,6", b"T5.6",
+        ],
+    ),
+    (4, &[b"+9", b"+:", b"+/", b"-5"]),
+    (5, &[b"Z1023", b"Z1024", b"Z9999", b"z0000"]),
+    (6, &[b"H9999999", b"N0006123"]),
+    (7, &[b"N9999999"]),
+    (8, &[b"F999999:"]),
+    (9, &[b"V409.5", b"V409.6", b"V999.9", b"V27.30", b"V0273.", b"V02730"]),
+    (10, &[b"E-000", b"E+000", b"E-001", b"E-999", b"E+999", b"E 023", b"E0023", b"E--01"]),
+    (11, &[b"z1000", b"z1001", b"z9999", b"Z0000", b"z1.00"]),
+    (12, &[b"S         ", b"S~~~~~~~~~", b"S12345678\x7F", b"S\x1F23456789", b"s4050.0093"]),
+];
 
 pub const TEXT: Form = Form {
     reader: "heron_read_text",
     contents: lens::TEXT,
     output: 53,
     parts: &[8, 5, 4, 2, 5, 8, 8, 8, 6, 5, 5, 10],
-    edges: &[
-        (1, &[b"D9999999", b"D0000000", b"d0000798", b"D   0798", b"D-000798"]),
-        (2, &[b"T4095", b"T4096", b"T9999", b"t0680"]),
-        (
-            3,
-            &[
-                b"t09.", b"t10.", b"t25.", b"t26.", b"t99.", b"t00.", b"t0.0", b"t9.9", b"t.99", b"t1..", b"t..1", b"t...",
-                b"t100", b"t 8.", b"t 8+", b"t5,6", b"T5.6",
-            ],
-        ),
-        (4, &[b"+9", b"+:", b"+/", b"-5"]),
-        (5, &[b"Z1023", b"Z1024", b"Z9999", b"z0000"]),
-        (6, &[b"H9999999", b"N0006123"]),
-        (7, &[b"N9999999"]),
-        (8, &[b"F999999:"]),
-        (9, &[b"V409.5", b"V409.6", b"V999.9", b"V27.30", b"V0273.", b"V02730"]),
-        (10, &[b"E-000", b"E+000", b"E-001", b"E-999", b"E+999", b"E 023", b"E0023", b"E--01"]),
-        (11, &[b"z1000", b"z1001", b"z9999", b"Z0000", b"z1.00"]),
-        (12, &[b"S         ", b"S~~~~~~~~~", b"S12345678\x7F", b"S\x1F23456789", b"s4050.0093"]),
-    ],
+    edges: &TEXT_EDGES,
     right: |random, with_sum| lens::text_message(&right_record(random), with_sum).unwrap(),
     reference: lens::read_text,
     library: library::read_text,
+};
+
+/// A text record with thousandths that can be moved back.
+pub fn right_new(random: &mut Random) -> Vec<u8> {
+    let mut r = right_record(random);
+    r.fields[10] -= r.fields[10] % 10;
+    lens::text_message(&r, false).unwrap()
+}
+
+/// An old line: a text record's fields 1 to 10 and a zoom of so many hundredths.
+pub fn right_old(random: &mut Random) -> Vec<u8> {
+    let mut m = lens::text_message(&right_record(random), false).unwrap();
+    let hundredths = if random.below(4) == 0 { random.pick(&[0, 1, 99, 100]) } else { random.below(101) };
+    m.truncate(part_start(&TEXT, 11));
+    m.extend(format!("z{}.{:02}\n\r", hundredths / 100, hundredths % 100).bytes());
+    m
+}
+
+/// The text record's edges with others for the zoom, of as many fields as a line has.
+const fn edges_with<const FIELDS: usize>(zooms: Tries) -> [(usize, Tries); FIELDS] {
+    let mut edges = [(11, zooms); FIELDS];
+    let mut place = 0;
+    while place < FIELDS {
+        if TEXT_EDGES[place].0 != 11 {
+            edges[place] = TEXT_EDGES[place];
+        }
+        place += 1;
+    }
+    edges
+}
+
+const OLD_EDGES: [(usize, Tries); 11] = edges_with(&[
+    b"z0.00", b"z0.57", b"z1.00", b"z1.01", b"z1.10", b"z2.00", b"z9.99", b"z.570", b"z00.5", b"z057.", b"z0570", b"z1000",
+    b"z0,57", b"zO.57", b"z0.5x", b"z0.:7", b"z0.5/", b"z 0.5", b"z-.57", b"Z0.57", b"z0..5", b"z....",
+]);
+
+const NEW_EDGES: [(usize, Tries); 12] = edges_with(&[
+    b"z0000", b"z0570", b"z1000", b"z0001", b"z0005", b"z0571", b"z0999", b"z1001", b"z1010", b"z9990", b"z0.57", b"z1.00",
+    b"z057x", b"z05 0", b"Z0570",
+]);
+
+/// The serial that `OLD` adds.
+pub const SERIAL: &[u8] = b"4050.0093";
+
+/// Old lines moved forward. There is no checksum here, nor in `NEW`.
+pub const OLD: Form = Form {
+    reader: "heron_old_to_new",
+    contents: lens::OLD,
+    output: 76,
+    parts: &[8, 5, 4, 2, 5, 8, 8, 8, 6, 5, 5],
+    edges: &OLD_EDGES,
+    right: |random, _| right_old(random),
+    reference: |m, _, out| lens::old_to_new(m, SERIAL, out),
+    library: |m, _, out| library::old_to_new(m, SERIAL, out),
+};
+
+/// Present lines moved back.
+pub const NEW: Form = Form {
+    reader: "heron_new_to_old",
+    contents: lens::TEXT,
+    output: 66,
+    parts: TEXT.parts,
+    edges: &NEW_EDGES,
+    right: |random, _| right_new(random),
+    reference: |m, _, out| lens::new_to_old(m, out),
+    library: |m, _, out| library::new_to_old(m, out),
 };
 
 // Among the packed edges: distances 9,999,999 and 10,000,000, stops 250 and 251, 99 and 100 with and without bit 7, pupils minus

@@ -25,6 +25,8 @@ struct Host {
     read_fixed: fn(&[u8], bool, &mut [u8]) -> Outcome,
     owner_start: fn(&[u8], bool) -> Outcome,
     owner_len: fn(&[u8], bool) -> Outcome,
+    old_to_new: fn(&[u8], &[u8], &mut [u8]) -> Outcome,
+    new_to_old: fn(&[u8], &mut [u8]) -> Outcome,
     convert: fn(u32, i32, u8, u8) -> Result<i32, Refusal>,
     checksum: fn(&[u8]) -> Outcome,
 }
@@ -39,6 +41,8 @@ const REFERENCE: Host = Host {
     read_fixed: lens::read_fixed,
     owner_start: lens::owner_start,
     owner_len: lens::owner_len,
+    old_to_new: lens::old_to_new,
+    new_to_old: lens::new_to_old,
     convert: lens::convert,
     checksum: |bytes| Ok(usize::from(u16::from_be_bytes(lens::checksum(bytes)))),
 };
@@ -53,6 +57,8 @@ const LIBRARY: Host = Host {
     read_fixed: library::read_fixed,
     owner_start: library::owner_start,
     owner_len: library::owner_len,
+    old_to_new: library::old_to_new,
+    new_to_old: library::new_to_old,
     convert: |field, number, unit, wanted| match library::convert(field, number, unit, wanted) {
         Converted { number: 0, value, .. } => Ok(value),
         Converted { number, field, .. } => Err(Refusal { number, value: u64::from(field) }),
@@ -270,6 +276,14 @@ fn run(host: &Host, line: &[Word]) -> Option<Vec<Word>> {
                 (Ok(start), Ok(len)) => Ok(vec![number(start as i64), Bytes(message.get(start..start + len)?.to_vec())]),
                 (start, len) => start.and(len).map(|_| Vec::new()),
             }
+        }
+        "old_to_new" => {
+            let (message, serial) = (inputs.bytes()?, inputs.bytes()?);
+            lent(|out| (host.old_to_new)(&message, &serial, out)).map(|message| vec![Bytes(message)])
+        }
+        "new_to_old" => {
+            let message = inputs.bytes()?;
+            lent(|out| (host.new_to_old)(&message, out)).map(|message| vec![Bytes(message)])
         }
         "convert" => {
             let (field, n) = (inputs.number()? as u32, inputs.number()? as i32);

@@ -1,4 +1,4 @@
-/* What the parts of heron-bench share: exit statuses, forms, names, bytes. */
+/* What the parts of heron-bench share: exit statuses, forms, names, bytes, streams. */
 #ifndef BENCH_H
 #define BENCH_H
 
@@ -12,6 +12,7 @@ enum { DONE = 0, REFUSED = 1, USAGE = 2 };
 int read_command(int argc, char **argv);
 int record_command(int argc, char **argv);
 int write_command(int argc, char **argv);
+int archive_command(int argc, char **argv);
 int convert_command(int argc, char **argv);
 int checksum_command(int argc, char **argv);
 
@@ -46,6 +47,9 @@ extern const name items[ITEMS];
 /* A line such as "refused 6, contents no writer writes: field 3, ring stop". */
 void print_refusal(FILE *to, form f, bool checksum, heron_answer refused);
 
+/* The same of a record in a form that has so many bytes. */
+void print_record_refusal(FILE *to, size_t length, heron_answer refused);
+
 /* ---- bytes */
 
 typedef struct {
@@ -65,6 +69,37 @@ void print_hex(const uint8_t *bytes, size_t len);
 /* In quotes; what is no printable character, a quote and a backslash as \xNN. */
 void print_quoted(const uint8_t *bytes, size_t len);
 
+/* ---- inputs */
+
+/* Takes an input to its end; false with errno where it cannot be read so far. */
+typedef bool (*input_taker)(FILE *in, const char *where, void *with);
+
+/* Hands over the files one by one, - for standard input, or standard input where there is none. Says on standard error
+ * which of them cannot be read; returns whether all can. */
+bool take_inputs(const char *command, char **paths, int count, input_taker take, void *with);
+
+/* A part of a stream: a message, or what stands behind the last one. */
+typedef struct {
+    bool ended;                    /* it is a message */
+    unsigned long long start, len; /* its place, its bytes */
+    uint8_t *bytes;                /* NULL where they are more than a cutter holds */
+} part;
+
+typedef void (*part_taker)(const part *p, void *with);
+
+/* Hands over the parts of a stream, each as it ends, until standard output cannot be written; false with errno where the
+ * stream cannot be read. What was printed goes out before more is waited for. */
+bool cut_stream(FILE *in, part_taker take, void *with);
+
+/* Messages, and the refused among them. */
+typedef struct {
+    unsigned long messages;
+    unsigned long refused;
+} counts;
+
+/* The line with which a command ends. */
+void print_counts(FILE *to, const counts *c);
+
 /* ---- what a message is and holds, as the end of a line that says where it stands, and lines below it */
 
 /* Enough for the contents of any form. */
@@ -77,7 +112,10 @@ bool report_form(const buffer *m, form f, bool checksum, heron_answer answer, co
 bool report_reply(const buffer *m, bool checksum);
 
 /* A message of so many bytes, of which the library keeps none. */
-void report_too_long(unsigned long long len);
+void report_too_long(FILE *to, unsigned long long len);
+
+/* So many bytes behind the last message of a stream. */
+void report_tail(FILE *to, unsigned long long len);
 
 /* A line with the bytes of a message that was refused. */
 void print_bytes(const uint8_t *bytes, size_t len);

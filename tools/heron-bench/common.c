@@ -64,7 +64,8 @@ static void print_item(FILE *to, uint64_t item)
         fprintf(to, ", %s", items[item].words);
 }
 
-void print_refusal(FILE *to, form f, bool checksum, heron_answer refused)
+/* Of contents whose parts are fields or items, in a message of so many bytes, 0 where that is not known. */
+static void print_refused(FILE *to, bool has_items, size_t length, heron_answer refused)
 {
     fprintf(to, "refused %" PRIu32 ", %s", refused.number, heron_refusal_name(refused.number));
     switch (refused.number) {
@@ -75,20 +76,35 @@ void print_refusal(FILE *to, form f, bool checksum, heron_answer refused)
         print_item(to, refused.value);
         break;
     case HERON_CONTENTS:
-        if (f == FIXED)
+        if (has_items)
             print_item(to, refused.value);
         else
             print_field(to, refused.value);
         break;
     case HERON_LENGTH:
         fprintf(to, ": %" PRIu64 " bytes", refused.value);
-        if (f != NO_FORM)
-            fprintf(to, ", not %zu", forms[f].length[checksum]);
+        if (length > 0)
+            fprintf(to, ", not %zu", length);
         break;
     default:
         break;
     }
     fputc('\n', to);
+}
+
+void print_refusal(FILE *to, form f, bool checksum, heron_answer refused)
+{
+    print_refused(to, f == FIXED, f == NO_FORM ? 0 : forms[f].length[checksum], refused);
+}
+
+void print_record_refusal(FILE *to, size_t length, heron_answer refused)
+{
+    print_refused(to, false, length, refused);
+}
+
+void print_counts(FILE *to, const counts *c)
+{
+    fprintf(to, "messages: %lu, refused: %lu\n", c->messages, c->refused);
 }
 
 /* ---- bytes */

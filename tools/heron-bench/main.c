@@ -1,4 +1,4 @@
-/* heron-bench: reads, records and writes the messages of a Cooke /i lens on the bench, over libhourheron. No rule of
+/* heron-bench: reads, records, writes and moves the messages of a Cooke /i lens on the bench, over libhourheron. No rule of
  * the messages stands here: ranges, forms, ends, checksums and conversions are the library's. */
 #include "bench.h"
 
@@ -6,12 +6,13 @@
 #include <stdlib.h>
 
 static const char help[] =
-    "usage: heron-bench read|record|write|convert|checksum [OPTION...] [ARGUMENT...]\n"
+    "usage: heron-bench read|record|write|archive|convert|checksum [OPTION...] [ARGUMENT...]\n"
     "\n"
     "The messages of a Cooke /i lens on the bench:\n"
     "  read       says what each message of a stream or a file is and holds\n"
     "  record     asks the lens on a serial device for its records and says what each holds\n"
     "  write      writes a text record, a packed record or fixed data\n"
+    "  archive    moves the text records of old zoom firmware to the present form, and back\n"
     "  convert    a distance or the entrance pupil from one unit to the other\n"
     "  checksum   the two checksum characters of some bytes\n"
     "'heron-bench COMMAND --help' says more.\n"
@@ -131,6 +132,7 @@ static const struct {
     {"read", read_command},
     {"record", record_command},
     {"write", write_command},
+    {"archive", archive_command},
     {"convert", convert_command},
     {"checksum", checksum_command},
 };

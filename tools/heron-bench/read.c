@@ -1,10 +1,7 @@
-/* heron-bench read: says what each message is and holds. Where a message of a stream ends is the library's to say. */
-#define _POSIX_C_SOURCE 200809L
+/* heron-bench read: says what each message is and holds. */
 #include "bench.h"
 
-#include <errno.h>
 #include <stdlib.h>
-#include <unistd.h>
 
 static const char help[] =
     "usage: heron-bench read [OPTION...] [FILE...]\n"
@@ -32,11 +29,6 @@ typedef struct {
     enum { STREAM, LINES, HEX } input;
     char unit; /* I, M, or 0 for not given */
 } options;
-
-typedef struct {
-    unsigned long messages;
-    unsigned long refused;
-} counts;
 
 /* ---- a message */
 
@@ -74,50 +66,33 @@ static void take(const buffer *m, const options *o, counts *c)
 
 /* ---- the input */
 
-/* As much as there is, without waiting for a full piece: the count of bytes, 0 at the end, or -1 with errno. */
-static ssize_t next_piece(FILE *in, uint8_t *piece, size_t len)
+/* What a part of the input is taken with. */
+typedef struct {
+    const options *o;
+    counts *c;
+    const char *where;
+} reading;
+
+static void take_part(const part *p, void *with)
 {
-    fflush(stdout);
-    ssize_t came;
-    do
-        came = read(fileno(in), piece, len);
-    while (came < 0 && errno == EINTR);
-    return came;
+    const reading *r = with;
+    printf("%s: byte %llu: ", r->where, p->start);
+    if (!p->ended) {
+        report_tail(stdout, p->len);
+        if (p->bytes != NULL)
+            print_bytes(p->bytes, (size_t)p->len);
+    } else if (p->bytes != NULL) {
+        take(&(buffer){p->bytes, (size_t)p->len, (size_t)p->len}, r->o, r->c);
+    } else {
+        report_too_long(stdout, p->len);
+        r->c->messages++;
+        r->c->refused++;
+    }
 }
 
-static bool read_stream(FILE *in, const char *where, const options *o, counts *c)
+static bool read_stream(FILE *in, reading *r)
 {
-    static uint8_t piece[65536];
-    uint8_t bytes[HERON_CUTTER_LEN];
-    heron_cutter cutter = {{0}, 0};
-    unsigned long long start = 0, len = 0; /* of the message at hand */
-    ssize_t came;
-    while ((came = next_piece(in, piece, sizeof piece)) > 0)
-        for (size_t at = 0; at < (size_t)came;) {
-            heron_cut cut = heron_cut_message(&cutter, piece + at, (size_t)came - at, bytes, sizeof bytes);
-            at += cut.used;
-            len += cut.used;
-            if (!cut.ended)
-                continue;
-            printf("%s: byte %llu: ", where, start);
-            if (cut.number == HERON_DONE) {
-                take(&(buffer){bytes, (size_t)cut.value, sizeof bytes}, o, c);
-            } else {
-                report_too_long(len);
-                c->messages++;
-                c->refused++;
-            }
-            start += len;
-            len = 0;
-        }
-    if (came < 0)
-        return false;
-    if (len > 0) {
-        printf("%s: byte %llu: %llu %s without LF CR, no message\n", where, start, len, len == 1 ? "byte" : "bytes");
-        if (cutter.len <= HERON_CUTTER_LEN)
-            print_bytes(cutter.bytes, cutter.len);
-    }
-    return true;
+    return cut_stream(in, take_part, r);
 }
 
 /* A line without its LF; false where there is none. */
@@ -143,25 +118,25 @@ static void message_of_line(const buffer *line, buffer *m)
     }
 }
 
-static bool read_lines(FILE *in, const char *where, const options *o, counts *c)
+static bool read_lines(FILE *in, reading *r)
 {
     buffer line = {NULL, 0, 0};
     buffer m = {NULL, 0, 0};
     for (unsigned long long number = 1; next_line(in, &line); number++) {
         m.len = 0;
         long wrong = -1;
-        if (o->input == HEX)
+        if (r->o->input == HEX)
             wrong = buffer_add_hex(&m, (const char *)line.bytes, line.len);
         else
             message_of_line(&line, &m);
         if (wrong >= 0) {
-            printf("%s: line %llu: refused, no hex at character %ld\n", where, number, wrong + 1);
+            printf("%s: line %llu: refused, no hex at character %ld\n", r->where, number, wrong + 1);
             print_bytes(line.bytes, line.len);
-            c->messages++;
-            c->refused++;
+            r->c->messages++;
+            r->c->refused++;
         } else if (m.len > 0) {
-            printf("%s: line %llu: ", where, number);
-            take(&m, o, c);
+            printf("%s: line %llu: ", r->where, number);
+            take(&m, r->o, r->c);
         }
         fflush(stdout);
     }
@@ -170,25 +145,11 @@ static bool read_lines(FILE *in, const char *where, const options *o, counts *c)
     return !ferror(in);
 }
 
-/* Reads one input; false where it cannot be read to its end. */
-static bool read_input(FILE *in, const char *where, const options *o, counts *c)
+static bool read_input(FILE *in, const char *where, void *with)
 {
-    bool whole = (o->input == STREAM ? read_stream : read_lines)(in, where, o, c);
-    if (!whole)
-        fprintf(stderr, "heron-bench read: %s: cannot be read: %s\n", where, strerror(errno));
-    return whole;
-}
-
-static bool read_file(const char *path, const options *o, counts *c)
-{
-    FILE *in = fopen(path, "rb");
-    if (in == NULL) {
-        fprintf(stderr, "heron-bench read: %s: %s\n", path, strerror(errno));
-        return false;
-    }
-    bool whole = read_input(in, path, o, c);
-    fclose(in);
-    return whole;
+    reading *r = with;
+    r->where = where;
+    return (r->o->input == STREAM ? read_stream : read_lines)(in, r);
 }
 
 int read_command(int argc, char **argv)
@@ -219,12 +180,9 @@ int read_command(int argc, char **argv)
     }
 
     counts c = {0, 0};
-    bool whole = true;
-    if (i == argc)
-        whole = read_input(stdin, "stdin", &o, &c);
-    for (; i < argc; i++)
-        whole = (strcmp(argv[i], "-") == 0 ? read_input(stdin, "stdin", &o, &c) : read_file(argv[i], &o, &c)) && whole;
-    printf("messages: %lu, refused: %lu\n", c.messages, c.refused);
+    reading r = {&o, &c, NULL};
+    bool whole = take_inputs("read", argv + i, argc - i, read_input, &r);
+    print_counts(stdout, &c);
     if (!whole)
         return printed(USAGE);
     return printed(c.refused > 0 ? REFUSED : DONE);

@@ -221,7 +221,7 @@ static void report(recording *r, const heron_recorded *taken, const uint8_t *con
     clear_count(r);
     printf("%s: byte %llu: ", r->where, r->start);
     if (taken->number == HERON_TOO_LONG) {
-        report_too_long(r->len);
+        report_too_long(stdout, r->len);
     } else if (is_sign(r, taken)) {
         accepted = report_reply(&m, checksum);
     } else {

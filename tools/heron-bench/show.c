@@ -99,9 +99,14 @@ bool report_form(const buffer *m, form f, bool checksum, heron_answer answer, co
 
 /* ---- a message that was refused or is none */
 
-void report_too_long(unsigned long long len)
+void report_too_long(FILE *to, unsigned long long len)
 {
-    printf("refused %d, %s: %llu bytes, more than %d\n", HERON_TOO_LONG, heron_refusal_name(HERON_TOO_LONG), len, HERON_CUTTER_LEN);
+    fprintf(to, "refused %d, %s: %llu bytes, more than %d\n", HERON_TOO_LONG, heron_refusal_name(HERON_TOO_LONG), len, HERON_CUTTER_LEN);
+}
+
+void report_tail(FILE *to, unsigned long long len)
+{
+    fprintf(to, "%llu %s without LF CR, no message\n", len, len == 1 ? "byte" : "bytes");
 }
 
 void print_bytes(const uint8_t *bytes, size_t len)

@@ -1,6 +1,6 @@
 -- What the code's readers of fields answer, against what the codecs parse: a field behind its tag, a text behind its tags, fields in a row.
 -- Assumes nothing.
-use Prim.Native.Nat.{ℕ, _-_, _<_}
+use Prim.Native.Nat.{ℕ, _-_, _<_, _≤_}
 use mathlib.Core.List.{List, [], _∷_}
 use mathlib.Core.Path.{_≡_, refl, sym, ap, _∙_}
 use native.Mathlib.Omega.{arith}
@@ -8,10 +8,11 @@ use borrow.Author.Tests.{eq-eqb, ne-eqb}
 use lib.Dec.{eqb}
 use lib.ListN.{length, take, drop, getD}
 use lib.Seq.{take-all}
-use Rattle.laws.proofs.Tests.{cond-yes, cond-no, told}
-use Rattle.digits.specs.Digits.{readField}
+use Rattle.laws.proofs.Tests.{cond-yes, cond-no, told, never}
+use Rattle.digits.specs.Digits.{readField, readDecimal}
 use Rattle.digits.specs.declared.Field.{Field}
 use Rattle.digits.specs.declared.Field.the-variants.{Value, Wrong}
+use Rattle.digits.proofs.Laws.{digits-read}
 use Rattle.codec.specs.Codec.{Codec, Got, got, wrong, passed, both, fieldSays, number, text, begins, tagged, readTagged, textBehind, readWhole, parsed}
 
 -- ---- a number, by what its reader answered
@@ -43,6 +44,14 @@ module _ (t : ℕ) (read : List ℕ → Field) where
 
 pub tagged-number : (t i b off w top : ℕ) (s : List ℕ) → fieldSays i (readTagged t (readField b off top) s) ≡ tagged t i (number i b off w top) .parse s
 tagged-number t i b off w top s = tagged-says t (readField b off top) i (number i b off w top) s refl
+
+-- a number that was read is at most what was asked for
+pub tagged-low : (t top n : ℕ) (s : List ℕ) → readTagged t (readDecimal top) s ≡ Value n → n ≤ top
+unfolding readTagged
+tagged-low t top n s e =
+    told (begins t s)
+    (λ y. digits-read 10 48 (omega arith) (drop 1 s) n top (sym (cond-yes _ Wrong y) ∙ e) .0)
+    (λ no. let z : Wrong ≡ Value n = sym (cond-no _ Wrong no) ∙ e in never (cc))
 
 -- ---- a text behind its tags
 

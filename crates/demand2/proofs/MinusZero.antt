@@ -1,4 +1,4 @@
--- Minus zero, once for both forms: a record's spellings are its pupil's, and the pupil's bytes stand in one place. Assumes nothing.
+-- Minus zero, once for every form: the spellings of its contents are the pupil's, and the pupil's bytes stand in one place. Assumes nothing.
 use Prim.Native.Nat.{ℕ, _+_}
 use mathlib.Core.Bool.{Bool}
 use mathlib.Core.List.{List, [], _∷_, _++_, map, append-assoc}
@@ -29,20 +29,19 @@ use Rattle.frame.proofs.Refuses.{contents-long, refuses}
 use Rattle.pupil.specs.Pupil.{zeroToo, pupilText, pupilPacked, plusText, minusText, plusPacked, minusPacked}
 use Rattle.pupil.proofs.Exact.{zero-of, too-in, in-too, TwoZeros, text-zeros, packed-zeros}
 use Rattle.record.specs.Record.{recordLowest}
-use Rattle.record.specs.Forms.{textLength, packedLength, textForm, packedForm}
+use Rattle.record.specs.Forms.{textLength, packedLength, pupilOf, textForm, packedForm}
 use Rattle.record.specs.Places.{textPlaces, packedPlaces}
-use Rattle.record.specs.declared.Record.{Record}
 use Rattle.record.proofs.Exact.{text-form-blames, packed-form-blames, text-lowest, packed-lowest, text-form-width, packed-form-width}
-use Rattle.record.proofs.PupilAt.{zeroRecord, zero-sendable, PupilAt, text-at, packed-at}
+use Rattle.record.proofs.PupilAt.{PupilAt, text-at, packed-at}
 use Rattle.demand2.specs.MinusZero.{Message, MinusZero}
 
-module _ (form : Codec Record) (pupil : Codec ℤ) (places : List Place) (w at : ℕ) (plus minus : List ℕ) (blames : Blames form 0 places) (wide : form .width ≡ w)
-    (same : (r : Record) → form .lowest r ≡ recordLowest r) (zeros : TwoZeros pupil plus minus) (stands : PupilAt form pupil places at) (differ : plus ≢ minus) where
+module _ {A : Type 0} (form : Codec A) (rule : A → ℕ) (of : A → ℤ) (pupil : Codec ℤ) (places : List Place) (w at : ℕ) (plus minus : List ℕ) (blames : Blames form 0 places)
+    (wide : form .width ≡ w) (same : (r : A) → form .lowest r ≡ rule r) (zeros : TwoZeros pupil plus minus) (stands : PupilAt form rule of pupil places at) (differ : plus ≢ minus) where
   exact : Exact form
   exact = blames .exact
 
   -- the contents with these bytes in the pupil's place
-  abbrev put : Record → List ℕ → List ℕ
+  abbrev put : A → List ℕ → List ℕ
   put r t = stands .before r ++ (t ++ stands .behind r)
 
   -- each spelling of zero is as wide as the pupil, and is read as it
@@ -55,14 +54,14 @@ module _ (form : Codec Record) (pupil : Codec ℤ) (places : List Place) (w at :
   minus-long : length minus ≡ pupil .width
   minus-long = of-zero minus (inr (inl refl)) .0
 
-  put-field : (r : Record) (t x : List ℕ) → length t ≡ pupil .width → fieldOf places 10 (stands .before r ++ (t ++ x)) ≡ t
+  put-field : (r : A) (t x : List ℕ) → length t ≡ pupil .width → fieldOf places 10 (stands .before r ++ (t ++ x)) ≡ t
   put-field r t x l = stands .field _ ∙ ap (take (pupil .width)) (drop-at (stands .before r) (t ++ x) at (stands .long r)) ∙ take-at t x (pupil .width) l
 
   -- and what follows the contents
-  put-then : (r : Record) (t x : List ℕ) → put r t ++ x ≡ stands .before r ++ (t ++ (stands .behind r ++ x))
+  put-then : (r : A) (t x : List ℕ) → put r t ++ x ≡ stands .before r ++ (t ++ (stands .behind r ++ x))
   put-then r t x = append-assoc (stands .before r) (t ++ stands .behind r) x ∙ ap (λ (y : List ℕ). stands .before r ++ y) (append-assoc t (stands .behind r) x)
 
-  put-over : (r : Record) (s t : List ℕ) → length s ≡ pupil .width → length t ≡ pupil .width → over (put r s) at t ≡ put r t
+  put-over : (r : A) (s t : List ℕ) → length s ≡ pupil .width → length t ≡ pupil .width → over (put r s) at t ≡ put r t
   put-over r s t k l =
       let b = stands .before r in
       let x = stands .behind r in
@@ -72,63 +71,63 @@ module _ (form : Codec Record) (pupil : Codec ℤ) (places : List Place) (w at :
       ∙ ap₂ (λ (y z : List ℕ). y ++ (t ++ z)) (take-at b (s ++ x) at (stands .long r))
       (ap (λ (n : ℕ). drop (n + length t) (put r s)) (sym (stands .long r)) ∙ drop-append-add b (s ++ x) (length t) ∙ drop-at s x (length t) (k ∙ sym l))
 
-  print-is : (r : Record) → form .print r ≡ put r (pupil .print (r .figures .pupil))
+  print-is : (r : A) → form .print r ≡ put r (pupil .print (of r))
   print-is r = ap (λ (l : List (List ℕ)). getD l 0 []) (stands .spelt r)
 
   -- a record whose pupil is 0 goes out with plus
-  print-plus : (r : Record) → r .figures .pupil ≡ pos 0 → form .print r ≡ put r plus
+  print-plus : (r : A) → of r ≡ pos 0 → form .print r ≡ put r plus
   print-plus r z = print-is r ∙ ap (put r) (ap (pupil .print) z ∙ zeros .sent)
 
   -- and its other spelling has minus there
-  minus-put : (r : Record) → r .figures .pupil ≡ pos 0 → over (form .print r) at minus ≡ put r minus
+  minus-put : (r : A) → of r ≡ pos 0 → over (form .print r) at minus ≡ put r minus
   minus-put r z = ap (λ (s : List ℕ). over s at minus) (print-plus r z) ∙ put-over r plus minus plus-long minus-long
 
-  other : (r : Record) → map (put r) (zeroToo minus (r .figures .pupil)) ≡ zeroToo (over (form .print r) at minus) (r .figures .pupil)
-  other r = told (eqb (size (r .figures .pupil)) 0) (λ y. rw (y, minus-put r (zero-of _ y))) (λ n. rw n)
+  other : (r : A) → map (put r) (zeroToo minus (of r)) ≡ zeroToo (over (form .print r) at minus) (of r)
+  other r = told (eqb (size (of r)) 0) (λ y. rw (y, minus-put r (zero-of _ y))) (λ n. rw n)
 
-  spelt : (r : Record) → spellings form r ≡ form .print r ∷ zeroToo (over (form .print r) at minus) (r .figures .pupil)
-  spelt r = stands .spelt r ∙ ap (map (put r)) (zeros .spelt (r .figures .pupil)) ∙ ap₂ _∷_ (sym (print-is r)) (other r)
+  spelt : (r : A) → spellings form r ≡ form .print r ∷ zeroToo (over (form .print r) at minus) (of r)
+  spelt r = stands .spelt r ∙ ap (map (put r)) (zeros .spelt (of r)) ∙ ap₂ _∷_ (sym (print-is r)) (other r)
 
-  minus-spells : (r : Record) → r .figures .pupil ≡ pos 0 → over (form .print r) at minus ∈ spellings form r
+  minus-spells : (r : A) → of r ≡ pos 0 → over (form .print r) at minus ∈ spellings form r
   minus-spells r z =
       let s = over (form .print r) at minus in
       subst (λ (l : List (List ℕ)). s ∈ l) (sym (spelt r)) (inr (too-in s refl z))
 
   -- the pupil's bytes, where it may be sent
-  print-field : (r : Record) → recordLowest r ≡ 0 → fieldOf places 10 (form .print r) ≡ pupil .print (r .figures .pupil)
+  print-field : (r : A) → rule r ≡ 0 → fieldOf places 10 (form .print r) ≡ pupil .print (of r)
   print-field r h = ap (fieldOf places 10) (print-is r) ∙ put-field r _ _ (zeros .exact .long _ (stands .low r h))
 
-  never-minus : (r : Record) → recordLowest r ≡ 0 → fieldOf places 10 (form .print r) ≢ minus
+  never-minus : (r : A) → rule r ≡ 0 → fieldOf places 10 (form .print r) ≢ minus
   never-minus r h e =
-      let z = r .figures .pupil in
+      let z = of r in
       let m : pupil .print z ≡ minus = sym (print-field r h) ∙ e in
       let g : got z ≡ got (pos 0) = sym (zeros .exact .back z (stands .low r h)) ∙ ap (pupil .parse) m ∙ of-zero minus (inr (inl refl)) .1 in
       let zero : z ≡ pos 0 = cc in
       differ (sym (zeros .sent) ∙ ap (pupil .print) (sym zero) ∙ m)
 
-  module _ (checksum : Bool) (m : List ℕ) (r : Record) (e : readOf form checksum m ≡ accepted r) where
+  module _ (checksum : Bool) (m : List ℕ) (r : A) (e : readOf form checksum m ≡ accepted r) where
     abbrev z : ℤ
-    z = r .figures .pupil
+    z = of r
 
     sendable : form .lowest r ≡ 0
     sendable = reads-only form exact checksum m r e .0
 
-    abbrev sent : recordLowest r ≡ 0
+    abbrev sent : rule r ≡ 0
     sent = sym (same r) ∙ sendable
 
     -- an accepted message is the writer's, or has minus zero in the pupil's place
-    read-so : Message form at minus checksum r m
+    read-so : Message form of at minus checksum r m
     read-so =
         let s = in-map (framed checksum) (spellings form r) (reads-only form exact checksum m r e .1) in
         by (s .0) (s .2) (subst (λ (l : List (List ℕ)). s .0 ∈ l) (spelt r) (s .1))
       where
-        by : (s : List ℕ) → m ≡ framed checksum s → (s ≡ form .print r) ⊎ (s ∈ zeroToo (over (form .print r) at minus) z) → Message form at minus checksum r m
+        by : (s : List ℕ) → m ≡ framed checksum s → (s ≡ form .print r) ⊎ (s ∈ zeroToo (over (form .print r) at minus) z) → Message form of at minus checksum r m
         by s f (inl k) = inl (f ∙ ap (framed checksum) k)
         by s f (inr k) = let o = in-too _ z k in inr (o .1, f ∙ ap (framed checksum) (o .0))
 
     either : {C : Type 0} → (m ≡ messageOf form checksum r → C) → (z ≡ pos 0 → m ≡ framed checksum (put r minus) → C) → C
     either {C} f g = by read-so where
-      by : Message form at minus checksum r m → C
+      by : Message form of at minus checksum r m → C
       by (inl k) = f k
       by (inr (o, k)) = g o (k ∙ ap (framed checksum) (minus-put r o))
 
@@ -160,25 +159,27 @@ module _ (form : Codec Record) (pupil : Codec ℤ) (places : List Place) (w at :
         let contents : take (form .width) m ≡ put r minus = ap (take (form .width)) k ∙ take-at (put r minus) (ending checksum (put r minus)) (form .width) long in
         ap (framed checksum) (p ∙ sym back ∙ ap (λ (s : List ℕ). over s at plus) (sym contents)))
 
-  accepts : (checksum : Bool) (m : List ℕ) (r : Record) → (readOf form checksum m ≡ accepted r) ↔ ((recordLowest r ≡ 0) × Message form at minus checksum r m)
+  accepts : (checksum : Bool) (m : List ℕ) (r : A) → (readOf form checksum m ≡ accepted r) ↔ ((rule r ≡ 0) × Message form of at minus checksum r m)
   accepts checksum m r = (λ e. (sent checksum m r e, read-so checksum m r e), λ h. exactly form exact checksum m r .1 (same r ∙ h .0, by (h .1))) where
-    by : Message form at minus checksum r m → m ∈ messagesOf form checksum r
+    by : Message form of at minus checksum r m → m ∈ messagesOf form checksum r
     by (inl k) = inl k
     by (inr (o, k)) = as-member (messagesOf form checksum r) k (map-in (framed checksum) (spellings form r) _ (minus-spells r o))
 
   -- field 10 with minus zero stands so in a spelling of a sendable record
   never-6 : (checksum : Bool) (m : List ℕ) → fieldOf places 10 m ≡ minus → readOf form checksum m ≢ refused (Contents 10)
   never-6 checksum m f e =
-      let q = refuses form recordLowest Field w places blames same wide .read-when checksum m (Contents 10) .0 e in
+      let q = refuses form rule Field w places blames same wide .read-when checksum m (Contents 10) .0 e in
       let b = q .0 in
       let long = contents-long checksum w m (q .2 ∙ sym (ending-by w checksum)) b (q .1) ∙ sym wide in
       let contents : take (form .width) m ≡ b = ap (take (form .width)) (q .1) ∙ take-at b (ending checksum b) (form .width) long in
-      let s = over (form .print zeroRecord) at minus in
-      q .3 .unspelt s (zeroRecord, zero-sendable, minus-spells zeroRecord refl)
+      let z = stands .zero in
+      let a = z .0 in
+      let s = over (form .print a) at minus in
+      q .3 .unspelt s (a, z .1, minus-spells a (z .2))
       (ap (fieldOf places 10) (sym contents) ∙ sym (blames .within m 10) ∙ f
-      ∙ sym (ap (fieldOf places 10) (minus-put zeroRecord refl) ∙ put-field zeroRecord minus _ minus-long))
+      ∙ sym (ap (fieldOf places 10) (minus-put a (z .2)) ∙ put-field a minus _ minus-long))
 
-  minus-zero : MinusZero form places at plus minus
+  pub minus-zero : MinusZero form rule of places at plus minus
   minus-zero = record {
     accepts = accepts;
     spelt = spelt;
@@ -190,12 +191,12 @@ module _ (form : Codec Record) (pupil : Codec ℤ) (places : List Place) (w at :
     comes-same = comes-same;
   }
 
-pub text-zero : MinusZero textForm textPlaces 54 plusText minusText
+pub text-zero : MinusZero textForm recordLowest pupilOf textPlaces 54 plusText minusText
 text-zero =
-    minus-zero textForm pupilText textPlaces textLength 54 plusText minusText text-form-blames text-form-width text-lowest text-zeros text-at
+    minus-zero textForm recordLowest pupilOf pupilText textPlaces textLength 54 plusText minusText text-form-blames text-form-width text-lowest text-zeros text-at
     (λ e. let k : 43 ≡ 45 = ap (λ (s : List ℕ). getD s 1 0) e in omega arith)
 
-pub packed-zero : MinusZero packedForm packedPlaces 25 plusPacked minusPacked
+pub packed-zero : MinusZero packedForm recordLowest pupilOf packedPlaces 25 plusPacked minusPacked
 packed-zero =
-    minus-zero packedForm pupilPacked packedPlaces packedLength 25 plusPacked minusPacked packed-form-blames packed-form-width packed-lowest packed-zeros packed-at
+    minus-zero packedForm recordLowest pupilOf pupilPacked packedPlaces packedLength 25 plusPacked minusPacked packed-form-blames packed-form-width packed-lowest packed-zeros packed-at
     (λ e. let k : 64 ≡ 96 = ap (λ (s : List ℕ). getD s 0 0) e in omega arith)

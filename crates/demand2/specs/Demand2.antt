@@ -15,7 +15,7 @@ use Rattle.frame.specs.Faithful.{Faithful}
 use Rattle.frame.specs.Refuses.{Refuses}
 use Rattle.pupil.specs.Pupil.{plusText, minusText, plusPacked, minusPacked}
 use Rattle.record.specs.Record.{recordLowest}
-use Rattle.record.specs.Forms.{textForm, packedForm}
+use Rattle.record.specs.Forms.{pupilOf, textForm, packedForm}
 use Rattle.record.specs.Places.{textPlaces, packedPlaces}
 use Rattle.record.specs.Ranges.{recordRanges}
 use Rattle.fixed.specs.Fixed.{fixedLowest, settingsLowest}
@@ -40,8 +40,8 @@ pub record Demand2 : Type 0 where
   -- the fixed data, 67 or 69
   pub fixed : Faithful fixedForm fixedLowest Setting 67
   -- [5]: minus zero is read as 0 in either form of a record, and comes out as plus zero; the N reader takes the writer's messages only
-  pub text-zero : MinusZero textForm textPlaces 54 plusText minusText
-  pub packed-zero : MinusZero packedForm packedPlaces 25 plusPacked minusPacked
+  pub text-zero : MinusZero textForm recordLowest pupilOf textPlaces 54 plusText minusText
+  pub packed-zero : MinusZero packedForm recordLowest pupilOf packedPlaces 25 plusPacked minusPacked
   pub fixed-once : (f : Fixed) → fixedForm .also f ≡ []
   -- "No number is given outside its case; where no case holds, the entry does its work": 3, 4, 5, 6 for the readers, 1 or 8 and then 2 for the writers
   pub text-refuses : Refuses textForm recordLowest Field 76 textPlaces

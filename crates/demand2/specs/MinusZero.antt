@@ -5,7 +5,7 @@ use mathlib.Core.Bool.{Bool}
 use mathlib.Core.List.{List, _∷_}
 use mathlib.Core.Logic.{_≢_, _↔_, _⊎_}
 use mathlib.Core.Path.{_≡_}
-use lib.IntN.{pos}
+use lib.IntN.{ℤ, pos}
 use lib.ListN.{take}
 use Rattle.laws.specs.Over.{over}
 use Rattle.refusal.specs.Answer.{accepted, refused}
@@ -15,29 +15,27 @@ use Rattle.codec.specs.Places.{Place, fieldOf}
 use Rattle.frame.specs.Frame.{framed}
 use Rattle.frame.specs.Message.{readOf, messageOf}
 use Rattle.pupil.specs.Pupil.{zeroToo}
-use Rattle.record.specs.Record.{recordLowest}
-use Rattle.record.specs.declared.Record.{Record}
 
 -- the writer's message for r, or, where the pupil is 0, the same with minus zero in the pupil's place, under its own checksum
-abbrev pub Message : Codec Record → ℕ → List ℕ → Bool → Record → List ℕ → Type 0
-Message form at minus checksum r m =
-    (m ≡ messageOf form checksum r) ⊎ ((r .figures .pupil ≡ pos 0) × (m ≡ framed checksum (over (form .print r) at minus)))
+abbrev pub Message : {A : Type 0} → Codec A → (A → ℤ) → ℕ → List ℕ → Bool → A → List ℕ → Type 0
+Message form pupilOf at minus checksum r m =
+    (m ≡ messageOf form checksum r) ⊎ ((pupilOf r ≡ pos 0) × (m ≡ framed checksum (over (form .print r) at minus)))
 
-pub record MinusZero (form : Codec Record) (places : List Place) (at : ℕ) (plus minus : List ℕ) : Type 0 where
+pub record MinusZero {A : Type 0} (form : Codec A) (rule : A → ℕ) (pupilOf : A → ℤ) (places : List Place) (at : ℕ) (plus minus : List ℕ) : Type 0 where
   -- "From now on readers accept the writers' messages and these two spellings", one in each form
-  pub accepts : (checksum : Bool) (m : List ℕ) (r : Record) → (readOf form checksum m ≡ accepted r) ↔ ((recordLowest r ≡ 0) × Message form at minus checksum r m)
+  pub accepts : (checksum : Bool) (m : List ℕ) (r : A) → (readOf form checksum m ≡ accepted r) ↔ ((rule r ≡ 0) × Message form pupilOf at minus checksum r m)
   -- these are the spellings of a record by which 'accepts exactly' is said of every codec
-  pub spelt : (r : Record) → spellings form r ≡ form .print r ∷ zeroToo (over (form .print r) at minus) (r .figures .pupil)
+  pub spelt : (r : A) → spellings form r ≡ form .print r ∷ zeroToo (over (form .print r) at minus) (pupilOf r)
   -- "The readers must take both as 0", and as nothing else
-  pub reads-zero : (checksum : Bool) (m : List ℕ) (r : Record) → readOf form checksum m ≡ accepted r → fieldOf places 10 m ≡ minus → r .figures .pupil ≡ pos 0
+  pub reads-zero : (checksum : Bool) (m : List ℕ) (r : A) → readOf form checksum m ≡ accepted r → fieldOf places 10 m ≡ minus → pupilOf r ≡ pos 0
   -- "6 no longer given for it"
   pub never-6 : (checksum : Bool) (m : List ℕ) → fieldOf places 10 m ≡ minus → readOf form checksum m ≢ refused (Contents 10)
   -- "Writers still send plus",
-  pub sends-plus : (r : Record) → r .figures .pupil ≡ pos 0 → fieldOf places 10 (form .print r) ≡ plus
+  pub sends-plus : (r : A) → pupilOf r ≡ pos 0 → fieldOf places 10 (form .print r) ≡ plus
   -- and never minus zero
-  pub never-minus : (r : Record) → recordLowest r ≡ 0 → fieldOf places 10 (form .print r) ≢ minus
+  pub never-minus : (r : A) → rule r ≡ 0 → fieldOf places 10 (form .print r) ≢ minus
   -- "writing what was read gives the plus form": minus zero comes out as plus zero, under its own checksum,
-  pub comes-plus : (checksum : Bool) (m : List ℕ) (r : Record) → readOf form checksum m ≡ accepted r → fieldOf places 10 m ≡ minus →
+  pub comes-plus : (checksum : Bool) (m : List ℕ) (r : A) → readOf form checksum m ≡ accepted r → fieldOf places 10 m ≡ minus →
       messageOf form checksum r ≡ framed checksum (over (take (form .width) m) at plus)
   -- and any other message as it was
-  pub comes-same : (checksum : Bool) (m : List ℕ) (r : Record) → readOf form checksum m ≡ accepted r → fieldOf places 10 m ≢ minus → messageOf form checksum r ≡ m
+  pub comes-same : (checksum : Bool) (m : List ℕ) (r : A) → readOf form checksum m ≡ accepted r → fieldOf places 10 m ≢ minus → messageOf form checksum r ≡ m

@@ -23,7 +23,7 @@ use Rattle.frame.proofs.Exactly.{ending-long, framed-long}
 -- ---- a writer
 
 -- what the answer says of the room
-room-fits : {n len : ℕ} (k : ℕ) → wroteOf (roomFor n len) ≡ wrote.Count k → n ≤ len
+pub room-fits : {n len : ℕ} (k : ℕ) → wroteOf (roomFor n len) ≡ wrote.Count k → n ≤ len
 unfolding roomFor unless
 room-fits {n} {len} k e =
     told (leb n len)
@@ -37,34 +37,40 @@ room-short {n} {len} x e =
     (λ y. never (cc (rw y at e)))
     (λ f. leb-false n len f)
 
+-- what is left where the room decides the answer: contents of w bytes, and the ending behind them
+module _ {A : Type 0} (c : Codec A) (checksum : Bool) (a : A) (d : List ℕ) (w : ℕ) (printed : length (c .print a) ≡ w) {r : Wrote}
+    (room : r ≡ wroteOf (roomFor (w + endingWidth checksum) (length d))) where
+  pub short-left : (x : Refusal) → r ≡ wrote.Refused x → d ≡ over d 0 (messageOf c checksum a)
+  short-left x e = sym (over-short d (messageOf c checksum a) 0 (omega (arith, framed-long checksum w (c .print a) printed, room-short x (sym room ∙ e))))
+
+  pub done-left : {l1 l2 : List ℕ} (n : ℕ) → r ≡ wrote.Count n → l1 ≡ over d 0 (c .print a) → l2 ≡ over l1 w (ending checksum (take w l1)) → l2 ≡ over d 0 (messageOf c checksum a)
+  done-left {l1} {l2} n e p q =
+      let b = c .print a in
+      let h = room-fits n (sym room ∙ e) in
+      let t : take w l1 ≡ b = ap (take w) p ∙ take-over d b w printed (omega arith) in
+      let k = ending-long checksum b in
+      onto d b (ending checksum b) 0 w p (q ∙ ap (λ (s : List ℕ). over l1 w (ending checksum s)) t) (omega (arith, printed)) (omega arith)
+
 module _ {A : Type 0} (c : Codec A) (low : ℕ → Refusal) (checksum : Bool) (a : A) (d : List ℕ) where
   -- 1 or 8: a field or an item out of range
   pub writes-wrong : (i : ℕ) → i ≡ c .lowest a → (i ≡ 0 → ⊥) → WritesMessage c low checksum a d (wrote.Refused (low i)) d
   unfolding writeOf leftBy thenWrite thenLeft checked unless
   writes-wrong i e n = record { answers = rw (← e, ne-eqb i 0 n); leaves = rw (← e, ne-eqb i 0 n) }
 
-  -- contents that may be sent: the room decides the answer
+  -- contents that may be sent
   module _ (sendable : c .lowest a ≡ 0) (w : ℕ) (wide : c .width ≡ w) (long : c .lowest a ≡ 0 → length (c .print a) ≡ c .width) {r : Wrote}
       (room : r ≡ wroteOf (roomFor (w + endingWidth checksum) (length d))) where
-    printed : length (c .print a) ≡ w
-    printed = long sendable ∙ wide
-
     writes : {after : List ℕ} → after ≡ over d 0 (messageOf c checksum a) → WritesMessage c low checksum a d r after
     unfolding writeOf leftBy thenWrite thenLeft checked unless
     writes p = record { answers = rw (sendable, wide) room; leaves = rw sendable p }
 
     -- 2: the lent memory is too short
     pub writes-short : (x : Refusal) → r ≡ wrote.Refused x → WritesMessage c low checksum a d r d
-    writes-short x e = writes (sym (over-short d (messageOf c checksum a) 0 (omega (arith, framed-long checksum w (c .print a) printed, room-short x (sym room ∙ e)))))
+    writes-short x e = writes (short-left c checksum a d w (long sendable ∙ wide) room x e)
 
     -- the contents, and the ending behind them
     pub writes-done : {l1 l2 : List ℕ} (n : ℕ) → r ≡ wrote.Count n → l1 ≡ over d 0 (c .print a) → l2 ≡ over l1 w (ending checksum (take w l1)) → WritesMessage c low checksum a d r l2
-    writes-done {l1} {l2} n e p q =
-        let b = c .print a in
-        let h = room-fits n (sym room ∙ e) in
-        let t : take w l1 ≡ b = ap (take w) p ∙ take-over d b w printed (omega arith) in
-        let k = ending-long checksum b in
-        writes (onto d b (ending checksum b) 0 w p (q ∙ ap (λ (s : List ℕ). over l1 w (ending checksum s)) t) (omega (arith, printed)) (omega arith))
+    writes-done n e p q = writes (done-left c checksum a d w (long sendable ∙ wide) room n e p q)
 
 -- ---- a reader
 

@@ -3,4 +3,5 @@ pub mod Answers
 pub mod Left
 pub mod Faithful
 pub mod Refuses
+pub mod Stands
 pub mod Unique

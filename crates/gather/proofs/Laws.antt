@@ -10,7 +10,7 @@ use Rattle.laws.proofs.ListLaws.{drop-of-take, last-part}
 use Rattle.codec.specs.Codec.{Codec, Got, got, wrong, passed, both, mapped, filled, textBehind, _⊗_, viaIso, parsed}
 use Rattle.codec.proofs.Texts.{filled-whole}
 use Rattle.codec.proofs.Fields.{parsed-whole, parsed-other}
-use Rattle.record.specs.Forms.{Front, Middle, Back, serial, figuresOf, recordOf, partsOf}
+use Rattle.record.specs.Forms.{Front, Middle, Back, serial, figuresOf, groupsOf, recordOf, partsOf}
 use Rattle.record.specs.declared.Figures.{Figures}
 use Rattle.record.specs.declared.Record.{Record}
 use Rattle.serial.proofs.Field.{serial-read}
@@ -52,6 +52,27 @@ remade (got a) (got b) = refl
 remade (got a) (wrong i) = refl
 remade (wrong i) q = refl
 
+-- a part is as long as it is cut
+cut : (s : List ℕ) (n m : ℕ) → n + m ≤ length s → length (take m (drop n s)) ≡ m
+cut s n m h = length-take-le m (drop n s) (simp length-drop (omega arith))
+
+module _ (front : Codec Front) (middle : Codec Middle) (back : Codec Back) (i j k : ℕ) (p : front .width ≡ i) (q : middle .width ≡ j) (r : back .width ≡ k) (s : List ℕ) where
+  -- three groups alone: what was read of them and gathered
+  pub figures-found : {f : Got Front} {m : Got Middle} {b : Got Back} (e : Eleven) → length s ≡ i + (j + k) →
+      f ≡ parsed front 1 (take i s) → m ≡ parsed middle 5 (take j (drop i s)) → b ≡ parsed back 9 (take k (drop (i + j) s)) →
+      elevenSays e ≡ mapped figuresOf (both f (both m b)) → elevenSays e ≡ viaIso figuresOf groupsOf (front ⊗ (middle ⊗ back)) .parse s
+  figures-found e l x y z g =
+      rw (
+        g,
+        x ∙ parsed-whole front 1 p _ (cut s 0 i (omega arith)),
+        y ∙ parsed-whole middle 5 q _ (cut s i j (omega arith)),
+        z ∙ parsed-whole back 9 r _ (cut s (i + j) k (omega arith)),
+        p,
+        q,
+        drop-drop j i s,
+        last-part (i + j) k s (omega arith),
+      )
+
 module _ (front : Codec Front) (middle : Codec Middle) (back : Codec Back) (i j k : ℕ) (p : front .width ≡ i) (q : middle .width ≡ j) (r : back .width ≡ k) (s : List ℕ) (l : length s ≡ i + (j + k) + 10) where
   -- three groups, and the serial behind them
   abbrev form : Codec Record
@@ -76,10 +97,6 @@ module _ (front : Codec Front) (middle : Codec Middle) (back : Codec Back) (i j 
       )
       (remade _ _)
 
-  -- a part of it is as long as it is cut
-  cut : (n m : ℕ) → n + m ≤ length s → length (take m (drop n s)) ≡ m
-  cut n m h = length-take-le m (drop n s) (simp length-drop (omega arith))
-
   -- what was read of the parts and gathered
   pub record-found : {f : Got Front} {m : Got Middle} {b : Got Back} (e : Eleven) →
       f ≡ parsed front 1 (take i s) → m ≡ parsed middle 5 (take j (drop i s)) → b ≡ parsed back 9 (take k (drop (i + j) s)) →
@@ -88,9 +105,9 @@ module _ (front : Codec Front) (middle : Codec Middle) (back : Codec Back) (i j 
   record-found e x y z g =
       rw (
         g,
-        x ∙ parsed-whole front 1 p _ (cut 0 i (omega arith)),
-        y ∙ parsed-whole middle 5 q _ (cut i j (omega arith)),
-        z ∙ parsed-whole back 9 r _ (cut (i + j) k (omega arith)),
-        parsed-whole serial 12 serial-width _ (cut (i + (j + k)) 10 (omega arith)),
+        x ∙ parsed-whole front 1 p _ (cut s 0 i (omega arith)),
+        y ∙ parsed-whole middle 5 q _ (cut s i j (omega arith)),
+        z ∙ parsed-whole back 9 r _ (cut s (i + j) k (omega arith)),
+        parsed-whole serial 12 serial-width _ (cut s (i + (j + k)) 10 (omega arith)),
       )
       (sym record-parts)

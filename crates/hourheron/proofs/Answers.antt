@@ -3,23 +3,21 @@ use Prim.Native.Nat.{ℕ}
 use mathlib.Core.Bool.{Bool}
 use mathlib.Core.List.{List}
 use mathlib.Core.Path.{_≡_, refl, ap, _∙_}
-use borrow.Author.Tests.{eqb-true}
-use lib.Dec.{eqb}
-use Rattle.laws.proofs.Tests.{told}
-use Rattle.refusal.specs.Answer.{Answer, accepted, refused, unless}
+use Rattle.laws.specs.Gives.{Gives}
+use Rattle.refusal.specs.Answer.{Answer, accepted, refused}
 use Rattle.refusal.specs.declared.Refusal.{Refusal}
 use Rattle.codec.specs.Codec.{Codec}
-use Rattle.frame.specs.Message.{afterwards, checked, writeOf, leftBy, wroteOf, WritesMessage}
+use Rattle.frame.specs.Message.{afterwards, thenWrite, thenLeft, writeOf, wroteOf, WritesMessage}
 use Rattle.frame.specs.declared.Wrote.{Wrote}
+use Rattle.frame.proofs.Stands.{StandsFor, writes-alike}
 use Rattle.record.specs.Record.{recordRead}
 use Rattle.record.specs.declared.Record.{Record}
 use Rattle.record.specs.declared.RecordRead.{RecordRead}
 use Rattle.fixed.specs.Fixed.{fixedRead}
 use Rattle.fixed.specs.declared.Fixed.{Fixed}
 use Rattle.fixed.specs.declared.FixedRead.{FixedRead}
-use Rattle.hourheron.specs.Host.{answerOf, answerTo, Writes, toldBy}
+use Rattle.hourheron.specs.Host.{answerOf, answerTo, Writes, Lays, toldBy}
 use Rattle.hourheron.specs.declared.Answer as host
-use Rattle.hourheron.proofs.Given.{StandsFor}
 
 -- ---- what a reader below told, by its verdict and the contents beside it
 
@@ -39,14 +37,13 @@ pub back-wrote : (b : Answer ℕ) → answerTo (wroteOf b) ≡ answerOf b
 back-wrote (accepted n) = refl
 back-wrote (refused x) = refl
 
-module _ {A : Type 0} (form : Codec A) (low : ℕ → Refusal) (checksum : Bool) {f a : A} (d : List ℕ) (stands : StandsFor form f a) where
-  checked-alike : checked form low f ≡ checked form low a
-  unfolding checked unless
-  checked-alike = told (eqb (form .lowest a) 0) (λ y. ap (checked form low) (stands .same (eqb-true _ _ y))) (λ n. rw (stands .alike, n))
+-- what a crate below made, handed on
+pub lays-made : {A : Type 0} (bytes : A → List ℕ) (n : ℕ) (made : Answer A) (d : List ℕ) {r : host.Answer} {w : Wrote} {after : List ℕ} →
+    Gives (wroteOf (thenWrite n made d)) (thenLeft bytes made d) w after → r ≡ answerTo w → Lays bytes n made d r after
+lays-made bytes n made d p e = record { answers = e ∙ ap answerTo (p .answers) ∙ back-wrote (thenWrite n made d); leaves = p .leaves }
 
-  pub writes-given : {r : host.Answer} {w : Wrote} {after : List ℕ} → WritesMessage form low checksum f d w after → r ≡ answerTo w → Writes form low checksum a d r after
-  unfolding writeOf leftBy
-  writes-given p e = record {
-    answers = e ∙ ap answerTo (p .answers) ∙ back-wrote (writeOf form low checksum f d) ∙ rw checked-alike;
-    leaves = p .leaves ∙ rw checked-alike;
-  }
+pub writes-given : {A : Type 0} (form : Codec A) (low : ℕ → Refusal) (checksum : Bool) {f a : A} (d : List ℕ) → StandsFor form f a → {r : host.Answer} {w : Wrote} {after : List ℕ} →
+    WritesMessage form low checksum f d w after → r ≡ answerTo w → Writes form low checksum a d r after
+writes-given form low checksum {a = a} d stands p e =
+    let q = writes-alike form low checksum d stands p in
+    record { answers = e ∙ ap answerTo (q .answers) ∙ back-wrote (writeOf form low checksum a d); leaves = q .leaves }

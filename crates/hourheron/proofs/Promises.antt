@@ -22,11 +22,14 @@ use Rattle.fixed.specs.Form.{fixedForm}
 use Rattle.fixed.specs.declared.Fixed.{Fixed}
 use Rattle.units.specs.Units.{Converts, conversion}
 use Rattle.demand2.proofs.Proved.{demand2}
+use Rattle.archive.specs.Archive.{oldLine, newLine, forward, back}
+use Rattle.archive.specs.Promises.{Laid}
+use Rattle.archive.proofs.Promises.{promised as archive}
 use Rattle.cut_reader.proofs.Promises.{promised as cut}
 use Rattle.layout.specs.Promises.{Unpacks}
 use Rattle.layout.proofs.Promises.{promised as laid}
 use Rattle.hourheron.specs.Host.{answerOf, conversionOf, Writes, Lays, askedOf}
-use Rattle.hourheron.specs.Promises.{Reads, Written, Converted, Asked, Promised}
+use Rattle.hourheron.specs.Promises.{Reads, Written, Moved, Converted, Asked, Promised}
 use Rattle.hourheron.specs.declared.Answer as host
 use Rattle.hourheron.specs.declared.Conversion.{Conversion}
 use Rattle.hourheron.proofs.Rooms.{then-accepted, then-refused, room-enough, room-short}
@@ -126,6 +129,18 @@ module _ {A : Type 0} (form : Codec A) (rule : A → ℕ) (low : ℕ → Refusal
           call .leaves ∙ faithful .refused-same checksum a out (w .0) (w .1);
     }
 
+-- ---- old lines
+
+moved : (n : ℕ) (line : Answer (List ℕ)) (out : List ℕ) → Laid n line out → (r : host.Answer) (after : List ℕ) → Lays (λ l. l) n line out r after → Moved n line out r after
+moved n line out goes r after call = record {
+  done = λ k. Iff·trans (done-with answers r (thenWrite n line out) (call .answers) k) (goes .does k);
+  lays = λ l e z.
+      let w = was-done answers r (thenWrite n line out) (call .answers) z in
+      call .leaves ∙ goes .lays l e (goes .does (w .0) .0 (w .1) .2) .1;
+  refuses = λ x. Iff·trans (refused-with answers r (thenWrite n line out) (call .answers) x) (goes .refuses x);
+  refused-same = λ not. let w = was-refused answers r (thenWrite n line out) (call .answers) not in call .leaves ∙ goes .refused-same (w .0) (w .1);
+}
+
 -- ---- the conversion
 
 module _ (field : ℕ) (z : ℤ) (unit wanted : ℕ) (r : Conversion) (call : r ≡ conversionOf (conversion field z unit wanted)) where
@@ -195,6 +210,8 @@ promised = record {
   write-text = writes _ _ _ _ _ (demand2 .text) (demand2 .text-refuses);
   write-packed = writes _ _ _ _ _ (demand2 .packed) (demand2 .packed-refuses);
   write-fixed = writes _ _ _ _ _ (demand2 .fixed) (demand2 .fixed-refuses);
+  old-to-new = λ m s out. moved newLine (forward m s) out (archive .forward-laid m s out);
+  new-to-old = λ m out. moved oldLine (back m) out (archive .back-laid m out);
   convert = converts;
   checksum = λ s r e. (ap (λ (x : host.Answer). x .number) e, ap (λ (x : host.Answer). x .value) e);
   owner-start = asks _;

@@ -9,7 +9,7 @@ use Rattle.line.specs.declared.Line.{Line}
 use Rattle.collector.specs.declared.Collected.{Collected}
 use Rattle.cutter.specs.declared.Cutter.{Cutter}
 use Rattle.recorder.specs.declared.Recorder.{Recorder}
-use Rattle.hourheron.specs.Contracts.{HeronConvert, HeronChecksum, HeronWriteText, HeronWritePacked, HeronReadText, HeronReadPacked, HeronWriteFixed, HeronReadFixed, HeronOwnerStart, HeronOwnerLen, HeronCollect, HeronCutTextValue, HeronCutPackedValue, HeronCutFixedValue, HeronCutMessageValue, HeronRecorderFirst, HeronRecorderStart, HeronRecorderSendValue, HeronRecorderTakeValue}
+use Rattle.hourheron.specs.Contracts.{HeronConvert, HeronChecksum, HeronWriteText, HeronWritePacked, HeronReadText, HeronReadPacked, HeronOldToNew, HeronNewToOld, HeronWriteFixed, HeronReadFixed, HeronOwnerStart, HeronOwnerLen, HeronCollect, HeronCutTextValue, HeronCutPackedValue, HeronCutFixedValue, HeronCutMessageValue, HeronRecorderFirst, HeronRecorderStart, HeronRecorderSendValue, HeronRecorderTakeValue}
 use Rattle.hourheron.specs.declared.Conversion.{Conversion}
 use Rattle.hourheron.specs.declared.Answer.{Answer}
 use Rattle.hourheron.specs.declared.CutValue.{CutValue}
@@ -49,6 +49,16 @@ one-heron-read-packed message checksum out = one-outcome
 pub one-heron-read-fixed : (message : List ℕ) (checksum : Bool) (out : List ℕ) {r r′ : Answer} {after after′ : List ℕ} →
     HeronReadFixed message checksum out r after → HeronReadFixed message checksum out r′ after′ → (r ≡ r′) × (after ≡ after′)
 one-heron-read-fixed message checksum out = one-outcome
+
+-- ---- old lines
+
+pub one-heron-old-to-new : (message serial out : List ℕ) {r r′ : Answer} {after after′ : List ℕ} →
+    HeronOldToNew message serial out r after → HeronOldToNew message serial out r′ after′ → (r ≡ r′) × (after ≡ after′)
+one-heron-old-to-new message serial out = one-outcome
+
+pub one-heron-new-to-old : (message out : List ℕ) {r r′ : Answer} {after after′ : List ℕ} →
+    HeronNewToOld message out r after → HeronNewToOld message out r′ after′ → (r ≡ r′) × (after ≡ after′)
+one-heron-new-to-old message out = one-outcome
 
 -- ---- what writes nothing
 

@@ -13,7 +13,6 @@ use Rattle.frame.specs.Frame.{sumOf}
 use Rattle.frame.specs.Message.{afterwards, thenWrite, thenLeft, writeOf, leftBy}
 use Rattle.frame.specs.declared.Wrote.{Wrote}
 use Rattle.frame.specs.declared.Wrote.the-variants as wrote
-use Rattle.record.specs.declared.Figures.{Figures}
 use Rattle.record.specs.declared.Record.{Record}
 use Rattle.fixed.specs.declared.Fixed.{Fixed}
 use Rattle.hourheron.specs.declared.Answer as host
@@ -76,9 +75,6 @@ fixedFrom serial owner kind focal maximum letter transmission version = record {
   transmission = transmission;
   version = version;
 }
-
-abbrev pub withSerial : Figures → List ℕ → Record
-withSerial f serial = record { figures = f; serial = serial }
 
 -- ---- a reader: refused as the message is; then 2 with the bytes that the contents take; else their count
 

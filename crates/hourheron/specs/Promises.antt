@@ -8,7 +8,7 @@ use mathlib.Core.Path.{_≡_}
 use lib.IntN.{ℤ, pos}
 use lib.ListN.{length, drop}
 use Rattle.laws.specs.Member.{_∈_}
-use Rattle.refusal.specs.Answer.{Answer, accepted}
+use Rattle.refusal.specs.Answer.{Answer, accepted, refused}
 use Rattle.refusal.specs.Refusal.{numberOf, valueOf}
 use Rattle.refusal.specs.declared.Refusal.{Refusal}
 use Rattle.refusal.specs.declared.Refusal.the-variants.{Field, Room, Setting}
@@ -28,6 +28,7 @@ use Rattle.fixed.specs.declared.Fixed.{Fixed}
 use Rattle.nreader.specs.Reader.{ownerAt, ownerLength}
 use Rattle.units.specs.Units.{Converts}
 use Rattle.units.specs.Refuses.{ConvertWhen}
+use Rattle.archive.specs.Archive.{oldLine, newLine, forward, back}
 use Rattle.line.specs.declared.Line.{Line}
 use Rattle.collector.specs.Collect.{lineAfter, collected}
 use Rattle.collector.specs.declared.Collected.{Collected}
@@ -37,7 +38,7 @@ use Rattle.recorder.specs.declared.Recorder.{Recorder}
 use Rattle.layout.specs.Layout.{recordBytes, recordWidth, fixedBytes, fixedWidth}
 use Rattle.layout.specs.Unpack.{unpackRecord, unpackFixed}
 use Rattle.hourheron.specs.Host.{answerOf, conversionOf}
-use Rattle.hourheron.specs.Contracts.{HeronConvert, HeronChecksum, HeronWriteText, HeronWritePacked, HeronReadText, HeronReadPacked, HeronWriteFixed, HeronReadFixed, HeronOwnerStart, HeronOwnerLen, HeronCollect, HeronCutTextValue, HeronCutPackedValue, HeronCutFixedValue, HeronCutMessageValue, HeronRecorderFirst, HeronRecorderStart, HeronRecorderSendValue, HeronRecorderTakeValue}
+use Rattle.hourheron.specs.Contracts.{HeronConvert, HeronChecksum, HeronWriteText, HeronWritePacked, HeronReadText, HeronReadPacked, HeronOldToNew, HeronNewToOld, HeronWriteFixed, HeronReadFixed, HeronOwnerStart, HeronOwnerLen, HeronCollect, HeronCutTextValue, HeronCutPackedValue, HeronCutFixedValue, HeronCutMessageValue, HeronRecorderFirst, HeronRecorderStart, HeronRecorderSendValue, HeronRecorderTakeValue}
 use Rattle.hourheron.specs.Stream.{CutReader, HandsMessage, SendCall, TakeCall}
 use Rattle.hourheron.specs.declared.Conversion.{Conversion}
 use Rattle.hourheron.specs.declared.Answer as host
@@ -116,6 +117,18 @@ abbrev pub itemsTo : (List ℕ → List ℕ → ℕ → ℕ → ℕ → ℕ → 
     Fixed → Bool → List ℕ → host.Answer → List ℕ → Type 0
 itemsTo Write a = Write (a .serial) (a .owner) (a .kind) (a .focal) (a .maximum) (a .letter) (a .transmission) (a .version)
 
+-- ---- old lines
+
+-- what one call that moves a line says: line is the one of n bytes that it makes, or why it makes none
+pub record Moved (n : ℕ) (line : Answer (List ℕ)) (out : List ℕ) (r : host.Answer) (after : List ℕ) : Type 0 where
+  -- 0 with n, exactly where there is a line and room for it
+  pub done : (k : ℕ) → IsDone k r ↔ ((l : List ℕ) × (line ≡ accepted l) × (n ≤ length out) × (k ≡ n))
+  -- then it stands at the start, and the bytes past it are unchanged
+  pub lays : (l : List ℕ) → line ≡ accepted l → r .number ≡ 0 → after ≡ l ++ drop n out
+  -- refused as the line is, then 2
+  pub refuses : (x : Refusal) → IsRefused x r ↔ ((line ≡ refused x) ⊎ ((l : List ℕ) × (line ≡ accepted l) × (length out < n) × (x ≡ Room n)))
+  pub refused-same : (r .number ≡ 0 → ⊥) → after ≡ out
+
 -- ---- the other entries
 
 -- what one call of the conversion says
@@ -145,6 +158,9 @@ pub record Promised : Type 0 where
   pub write-text : Writer (fieldsTo HeronWriteText) textForm recordLowest Field 76
   pub write-packed : Writer (fieldsTo HeronWritePacked) packedForm recordLowest Field 41
   pub write-fixed : Writer (itemsTo HeronWriteFixed) fixedForm fixedLowest Setting 67
+  -- (what these lines are is in crate `archive`)
+  pub old-to-new : (m s out : List ℕ) (r : host.Answer) (after : List ℕ) → HeronOldToNew m s out r after → Moved newLine (forward m s) out r after
+  pub new-to-old : (m out : List ℕ) (r : host.Answer) (after : List ℕ) → HeronNewToOld m out r after → Moved oldLine (back m) out r after
   pub convert : (field : ℕ) (z : ℤ) (unit wanted : ℕ) (r : Conversion) → HeronConvert field z unit wanted r → Converted field z unit wanted r
   pub checksum : (s : List ℕ) (r : host.Answer) → HeronChecksum s r → IsDone (sumOf s .high * 256 + sumOf s .low) r
   pub owner-start : (m : List ℕ) (checksum : Bool) (r : host.Answer) → HeronOwnerStart m checksum r → Asked ownerAt m checksum r

@@ -1,4 +1,4 @@
-// For a C host: the writers, the readers, the owner's part, the conversion and the checksum, on
+// For a C host: the writers, the readers, the owner's part, old lines moved, the conversion and the checksum, on
 // numbers and byte slices; the line collector that the host keeps; and for the camera side the cutter and the
 // recorder, by value. No rule of the paper stands here.
 use collector::Collected;
@@ -9,7 +9,6 @@ use fixed::Lens;
 use frame::Wrote;
 use line::Line;
 use record::Figures;
-use record::Record;
 use record::RecordRead;
 use recorder::Made;
 use recorder::Recorded;
@@ -23,13 +22,12 @@ ghost use mathlib.Core.Bool.{true};
 ghost use mathlib.Core.Path.{_≡_};
 ghost use Rattle.refusal.specs.Answer.{accepted, refused};
 ghost use Rattle.frame.specs.Message.{roomFor};
-ghost use Rattle.codec.specs.Codec.{filled};
 ghost use Rattle.layout.specs.Layout.{recordBytes, recordWidth, fixedBytes, fixedWidth};
 ghost use Rattle.cutter.specs.Cutter.{fresh};
-ghost use Rattle.hourheron.specs.Host.{answerOf, answerTo, withSerial, toldBy, Lays};
+ghost use Rattle.hourheron.specs.Host.{answerOf, answerTo, toldBy, Lays};
 ghost use Rattle.hourheron.specs.Cuts.{cutWith, cutTo};
 ghost use Rattle.hourheron.specs.Takes.{sendTo, answerBeside, LaysMade, LaysTaken};
-ghost use Rattle.hourheron.specs.Contracts.{HeronConvert, HeronChecksum, HeronWriteText, HeronWritePacked, HeronReadText, HeronReadPacked, HeronWriteFixed, HeronReadFixed, HeronOwnerStart, HeronOwnerLen, HeronCollect, HeronCutTextValue, HeronCutPackedValue, HeronCutFixedValue, HeronCutMessageValue, HeronRecorderFirst, HeronRecorderStart, HeronRecorderSendValue, HeronRecorderTakeValue};
+ghost use Rattle.hourheron.specs.Contracts.{HeronConvert, HeronChecksum, HeronWriteText, HeronWritePacked, HeronReadText, HeronReadPacked, HeronOldToNew, HeronNewToOld, HeronWriteFixed, HeronReadFixed, HeronOwnerStart, HeronOwnerLen, HeronCollect, HeronCutTextValue, HeronCutPackedValue, HeronCutFixedValue, HeronCutMessageValue, HeronRecorderFirst, HeronRecorderStart, HeronRecorderSendValue, HeronRecorderTakeValue};
 
 // The refusal's number, or 0; and the value that comes with it, or the count.
 #[repr(C)]
@@ -147,18 +145,6 @@ pub extern "C" fn heron_checksum(bytes: &[u8]) -> Answer
 
 // ---- the writers of a record
 
-// The record of fields and a serial that are handed in one by one. A serial of another length is left as zeros, which no
-// text holds: the writers refuse it as field 12.
-fn record_given(figures: Figures, serial: &[u8]) -> Record
-    ensures { λ r. ⌜ r ≡ withSerial figures (filled 9 (now (serial .entry))) ⌝ }
-{
-    let nine = serial::nine_of(serial);
-    Record {
-        figures,
-        serial: nine,
-    }
-}
-
 // Writes a record as text.
 #[no_mangle]
 pub extern "C" fn heron_write_text(
@@ -194,7 +180,7 @@ pub extern "C" fn heron_write_text(
         pupil,
         zoom,
     };
-    let record = record_given(figures, serial);
+    let record = serial::record_from(figures, serial);
     answer_to(text_writer::write_text(record, checksum, out))
 }
 
@@ -233,7 +219,7 @@ pub extern "C" fn heron_write_packed(
         pupil,
         zoom,
     };
-    let record = record_given(figures, serial);
+    let record = serial::record_from(figures, serial);
     answer_to(packed_writer::write_packed(record, checksum, out))
 }
 
@@ -269,6 +255,24 @@ pub extern "C" fn heron_read_packed(message: &[u8], checksum: bool, out: &mut [u
     ensures { λ r. ⌜ HeronReadPacked (now (message .entry)) checksum (now (out .entry)) r (now (out .exit)) ⌝ }
 {
     lay_record(packed_reader::read_packed(message, checksum), out)
+}
+
+// ---- old text records
+
+// Moves an old line to the present form, with this serial.
+#[no_mangle]
+pub extern "C" fn heron_old_to_new(message: &[u8], serial: &[u8], out: &mut [u8]) -> Answer
+    ensures { λ r. ⌜ HeronOldToNew (now (message .entry)) (now (serial .entry)) (now (out .entry)) r (now (out .exit)) ⌝ }
+{
+    answer_to(archive::old_to_new(message, serial, out))
+}
+
+// Moves a line of the present form back.
+#[no_mangle]
+pub extern "C" fn heron_new_to_old(message: &[u8], out: &mut [u8]) -> Answer
+    ensures { λ r. ⌜ HeronNewToOld (now (message .entry)) (now (out .entry)) r (now (out .exit)) ⌝ }
+{
+    answer_to(archive::new_to_old(message, out))
 }
 
 // ---- the fixed data

@@ -9,9 +9,6 @@ use lib.ListN.{length, take, drop, getD, set, length-append, length-drop, take-a
 use lib.Seq.{drop-cons}
 use Rattle.laws.specs.Over.{over}
 use Rattle.laws.proofs.OverLaws.{over-fits, over-short, over-next, sets-over}
-use Rattle.codec.proofs.Exact.{first-zero, holds}
-use Rattle.codec.proofs.Texts.{text-long}
-use Rattle.record.specs.Record.{recordLowest}
 use Rattle.record.specs.declared.Record.{Record}
 use Rattle.fixed.specs.declared.Fixed.{Fixed}
 use Rattle.fixed.proofs.Given.{Long}
@@ -58,10 +55,6 @@ over-number d s i h room =
 -- ---- how long the whole is, where the texts have their lengths
 
 -- a record that may be sent has a serial of nine bytes
-pub serial-long : (r : Record) → recordLowest r ≡ 0 → length (r .serial) ≡ 9
-unfolding recordLowest
-serial-long r z = text-long 9 (r .serial) (holds _ 11 (first-zero _ _ z .1))
-
 pub record-long : (r : Record) → length (r .serial) ≡ 9 → length (recordBytes r) ≡ recordWidth
 unfolding numbersOf
 record-long r l = length-append (fourEach (numbersOf (r .figures))) (r .serial) ∙ rw (numbers-long (numbersOf (r .figures)), l)

@@ -18,13 +18,14 @@ use Rattle.stop.proofs.Exact.{stop-top}
 use Rattle.record.specs.Record.{topDistance, topPupil, frontLowest, middleLowest, backLowest, figuresLowest, recordLowest}
 use Rattle.record.specs.declared.Figures.{Figures}
 use Rattle.record.specs.declared.Record.{Record}
+use Rattle.record.proofs.Exact.{serial-long}
 use Rattle.fixed.specs.Fixed.{lensIn, lensLowest, fixedLowest}
 use Rattle.fixed.specs.declared.Fixed.{Fixed}
 use Rattle.fixed.proofs.Given.{Long, items-long}
 use Rattle.layout.specs.Layout.{lowestFirst, fourEach, twos, numbersOf, recordBytes, lensBytes, fixedBytes}
 use Rattle.layout.specs.Unpack.{valueIn, signedBy, bytesAt, unpackRecord, unpackFixed}
 use Rattle.layout.specs.Promises.{Promised}
-use Rattle.layout.proofs.Laws.{serial-long, record-long, fixed-long}
+use Rattle.layout.proofs.Laws.{record-long, fixed-long}
 
 -- the lowest bytes of a number hold it
 value-lowest : (w n : ℕ) → n < 256 ^ w → valueIn (lowestFirst w n) ≡ n

@@ -6,9 +6,10 @@ use mathlib.Core.Path.{_≡_, refl}
 use native.Mathlib.Omega.{arith}
 use lib.ListN.{length, length-append}
 use Rattle.digits.specs.Digits.{digits, widest}
-use Rattle.codec.specs.Codec.{number}
+use Rattle.codec.specs.Codec.{Codec, number, tagged}
 use Rattle.codec.specs.Places.{endToEnd, further}
-use Rattle.codec.proofs.Exact.{Exact}
+use Rattle.codec.proofs.Exact.{Exact, holds, first-zero}
+use Rattle.codec.proofs.Texts.{text-long}
 use Rattle.codec.proofs.Blames.{Alone, Blames, digits-alone, number-alone, text-alone, tagged-alone, alone-blames, ⊗-blames, iso-blames}
 use Rattle.pointed.specs.Pointed.{pointed}
 use Rattle.pointed.proofs.Exact.{pointed-alone}
@@ -19,7 +20,7 @@ use Rattle.stop.proofs.Blames.{stop-alone, pair-blames}
 use Rattle.pupil.specs.Pupil.{pupilText, pupilPacked}
 use Rattle.pupil.proofs.Exact.{text-alone as pupil-text, packed-alone as pupil-packed}
 use Rattle.record.specs.Record.{topDistance, frontLowest, middleLowest, backLowest, figuresLowest, recordLowest}
-use Rattle.record.specs.Forms.{Front, frontText, middleText, backText, frontPacked, middlePacked, backPacked, serial, recordOf, partsOf, textLength, packedLength, textForm, packedForm}
+use Rattle.record.specs.Forms.{Front, frontText, middleText, backBy, backText, frontPacked, middlePacked, backPacked, serial, recordOf, partsOf, textLength, packedLength, textForm, packedForm}
 use Rattle.record.specs.Places.{textPlaces, packedPlaces}
 use Rattle.record.specs.declared.Record.{Record}
 
@@ -27,7 +28,7 @@ use Rattle.record.specs.declared.Record.{Record}
 groups-alone : (i w top : ℕ) → w ≤ widest → top < 64 ^ w → Alone (suc i) (number (suc i) 64 64 w top)
 groups-alone i w top h k = number-alone i 64 64 w top (omega arith) h k
 
-front-text : Blames frontText 0 (endToEnd 0 (8 ∷ 5 ∷ 4 ∷ 2 ∷ []))
+pub front-text : Blames frontText 0 (endToEnd 0 (8 ∷ 5 ∷ 4 ∷ 2 ∷ []))
 unfolding frontText stop
 front-text =
     ⊗-blames _ _ 0 _ _ (alone-blames _ 0 (digits-alone 68 0 7 topDistance (omega arith) (omega arith)))
@@ -35,7 +36,7 @@ front-text =
     (⊗-blames _ _ 2 _ _ (alone-blames _ 2 (tagged-alone 116 3 _ stop-alone))
     (alone-blames _ 3 (digits-alone 43 3 1 9 (omega arith) (omega arith)))))
 
-middle-text : Blames middleText 4 (endToEnd 0 (5 ∷ 8 ∷ 8 ∷ 8 ∷ []))
+pub middle-text : Blames middleText 4 (endToEnd 0 (5 ∷ 8 ∷ 8 ∷ 8 ∷ []))
 unfolding middleText
 middle-text =
     ⊗-blames _ _ 4 _ _ (alone-blames _ 4 (digits-alone 90 4 4 1023 (omega arith) (omega arith)))
@@ -43,11 +44,16 @@ middle-text =
     (⊗-blames _ _ 6 _ _ (alone-blames _ 6 (digits-alone 78 6 7 topDistance (omega arith) (omega arith)))
     (alone-blames _ 7 (digits-alone 70 7 7 topDistance (omega arith) (omega arith)))))
 
-back-text : Blames backText 8 (endToEnd 0 (6 ∷ 5 ∷ 5 ∷ []))
-unfolding backText pointed pupilText
-back-text =
+-- whatever zoom stands behind V and E
+pub back-blames : (zoom : Codec ℕ) → Alone 11 zoom → Blames (backBy zoom) 8 (endToEnd 0 (6 ∷ 5 ∷ zoom .width ∷ []))
+unfolding pointed pupilText
+back-blames zoom u =
     ⊗-blames _ _ 8 _ _ (alone-blames _ 8 (tagged-alone 86 9 _ (pointed-alone 8 3 4095 (omega arith) (omega arith))))
-    (⊗-blames _ _ 9 _ _ (alone-blames _ 9 pupil-text) (alone-blames _ 10 (digits-alone 122 10 4 1000 (omega arith) (omega arith))))
+    (⊗-blames _ _ 9 _ _ (alone-blames _ 9 pupil-text) (alone-blames _ 10 u))
+
+back-text : Blames backText 8 (endToEnd 0 (6 ∷ 5 ∷ 5 ∷ []))
+unfolding backText
+back-text = back-blames (tagged 122 11 (number 11 10 48 4 1000)) (digits-alone 122 10 4 1000 (omega arith) (omega arith))
 
 front-packed : Blames frontPacked 0 (endToEnd 0 (5 ∷ 2 ∷ []) ++ further 7 pairPlaces)
 unfolding frontPacked
@@ -69,7 +75,7 @@ back-packed =
     ⊗-blames _ _ 8 _ _ (alone-blames _ 8 (groups-alone 8 2 4095 (omega arith) (omega arith)))
     (⊗-blames _ _ 9 _ _ (alone-blames _ 9 pupil-packed) (alone-blames _ 10 (groups-alone 10 2 1000 (omega arith) (omega arith))))
 
-serial-blames : Blames serial 11 (endToEnd 0 (10 ∷ []))
+pub serial-blames : Blames serial 11 (endToEnd 0 (10 ∷ []))
 unfolding serial
 serial-blames = alone-blames _ 11 (tagged-alone 83 12 _ (text-alone 11 9))
 
@@ -99,6 +105,10 @@ text-lowest r = refl
 pub packed-lowest : (r : Record) → packedForm .lowest r ≡ recordLowest r
 unfolding packedForm frontPacked middlePacked backPacked serial pair pupilPacked recordLowest figuresLowest frontLowest middleLowest backLowest
 packed-lowest r = refl
+
+pub serial-long : (r : Record) → recordLowest r ≡ 0 → length (r .serial) ≡ 9
+unfolding recordLowest
+serial-long r z = text-long 9 (r .serial) (holds _ 11 (first-zero _ _ z .1))
 
 pub front-text-long : (p : Front) → length (frontText .print p) ≡ 19
 unfolding frontText stop digits

@@ -1,4 +1,5 @@
 pub mod Exact
 pub mod PupilAt
 pub mod Ranges
+pub mod Told
 pub mod Unique

@@ -1,9 +1,9 @@
--- Where the pupil stands in a record's contents: what spells a record is what spells its pupil, between bytes that are spelt in one way.
+-- Where the pupil stands in the contents of a form: what spells them is what spells their pupil, between bytes that are spelt in one way.
 -- Assumes nothing.
 use Prim.Native.Nat.{ℕ, _+_}
 use mathlib.Core.List.{List, [], _∷_, _++_, map, append-assoc}
 use mathlib.Core.Path.{_≡_, refl, ap, ap₂, _∙_}
-use lib.IntN.{ℤ}
+use lib.IntN.{ℤ, pos}
 use lib.ListN.{length, take, drop, replicate, length-append}
 use Rattle.laws.specs.Every.{every}
 use Rattle.digits.specs.Digits.{digits}
@@ -13,75 +13,96 @@ use Rattle.codec.proofs.Exact.{first-zero}
 use Rattle.pointed.specs.Pointed.{pointed}
 use Rattle.stop.specs.Stop.{stopOk, stop, pair}
 use Rattle.pupil.specs.Pupil.{pupilOk, pupilText, pupilPacked}
-use Rattle.record.specs.Record.{frontLowest, middleLowest, backLowest, figuresLowest, recordLowest, noFigures}
+use Rattle.record.specs.Record.{topDistance, topPupil, frontLowest, middleLowest, backLowest, figuresLowest, recordLowest, noFigures}
 use Rattle.record.specs.Places.{textPlaces, packedPlaces}
-use Rattle.record.specs.Forms.{Front, Middle, frontText, middleText, backText, frontPacked, middlePacked, backPacked, serial, frontOf, middleOf, recordOf, partsOf, textForm, packedForm}
+use Rattle.record.specs.Forms.{Front, Middle, Groups, frontText, middleText, backText, viewText, frontPacked, middlePacked, backPacked, serial, groupsOf, recordOf, partsOf, pupilOf, textForm, packedForm}
+use Rattle.record.specs.declared.Figures.{Figures}
 use Rattle.record.specs.declared.Record.{Record}
 use Rattle.record.proofs.Exact.{front-text-long}
 
--- a record that may be sent, with its pupil at zero
-abbrev pub zeroRecord : Record
-zeroRecord = record { figures = noFigures; serial = replicate 9 32 }
-
-pub zero-sendable : recordLowest zeroRecord ≡ 0
-unfolding recordLowest figuresLowest frontLowest middleLowest backLowest failing first textOk every stopOk
-zero-sendable = refl
-
-pub record PupilAt (form : Codec Record) (pupil : Codec ℤ) (places : List Place) (at : ℕ) : Type 0 where
-  pub before : Record → List ℕ
-  pub behind : Record → List ℕ
-  pub long : (r : Record) → length (before r) ≡ at
-  pub spelt : (r : Record) → spellings form r ≡ map (λ t. before r ++ (t ++ behind r)) (spellings pupil (r .figures .pupil))
+pub record PupilAt {A : Type 0} (form : Codec A) (rule : A → ℕ) (pupilOf : A → ℤ) (pupil : Codec ℤ) (places : List Place) (at : ℕ) : Type 0 where
+  pub before : A → List ℕ
+  pub behind : A → List ℕ
+  pub long : (a : A) → length (before a) ≡ at
+  pub spelt : (a : A) → spellings form a ≡ map (λ t. before a ++ (t ++ behind a)) (spellings pupil (pupilOf a))
   pub field : (s : List ℕ) → fieldOf places 10 s ≡ take (pupil .width) (drop at s)
-  pub low : (r : Record) → recordLowest r ≡ 0 → pupil .lowest (r .figures .pupil) ≡ 0
-
--- the spellings of the pupil, between the fields before it and those behind
-around : (f m v z s : List ℕ) (ts : List (List ℕ)) →
-    each (each (f ∷ []) (each (m ∷ []) (each (v ∷ []) (each ts (z ∷ []))))) (s ∷ []) ≡ map (λ t. (f ++ (m ++ v)) ++ (t ++ (z ++ s))) ts
-around f m v z s [] = refl
-around f m v z s (t ∷ ts) = ap₂ _∷_ (simp append-assoc) (around f m v z s ts)
+  pub low : (a : A) → rule a ≡ 0 → pupil .lowest (pupilOf a) ≡ 0
+  -- contents that may be sent, with their pupil at zero
+  pub zero : (a : A) × (rule a ≡ 0) × (pupilOf a ≡ pos 0)
 
 -- spelt in one way
 abbrev Single : {A : Type 0} → Codec A → Type 0
 Single {A} c = (a : A) → c .also a ≡ []
 
-pupil-low : (r : Record) → recordLowest r ≡ 0 → failing (pupilOk (r .figures .pupil)) 10 ≡ 0
-unfolding recordLowest figuresLowest backLowest
-pupil-low r h =
-    let figures = first-zero _ _ h .0 in
-    let back = first-zero _ _ (first-zero _ _ figures .1) .1 in
+-- the spellings of the pupil, between the fields before it and the one behind
+around : (f m v z : List ℕ) (ts : List (List ℕ)) → each (f ∷ []) (each (m ∷ []) (each (v ∷ []) (each ts (z ∷ [])))) ≡ map (λ t. (f ++ (m ++ v)) ++ (t ++ z)) ts
+around f m v z [] = refl
+around f m v z (t ∷ ts) = ap₂ _∷_ (simp append-assoc) (around f m v z ts)
+
+-- and one more behind
+and-behind : (b z s : List ℕ) (ts : List (List ℕ)) → each (map (λ t. b ++ (t ++ z)) ts) (s ∷ []) ≡ map (λ t. b ++ (t ++ (z ++ s))) ts
+and-behind b z s [] = refl
+and-behind b z s (t ∷ ts) = ap₂ _∷_ (simp append-assoc) (and-behind b z s ts)
+
+pub figures-pupil-low : (f : Figures) → figuresLowest topDistance topPupil f ≡ 0 → failing (pupilOk (f .pupil)) 10 ≡ 0
+unfolding figuresLowest backLowest
+figures-pupil-low f h =
+    let back = first-zero _ _ (first-zero _ _ h .1) .1 in
     first-zero _ _ (first-zero _ _ back .1) .0
 
+pupil-low : (r : Record) → recordLowest r ≡ 0 → failing (pupilOk (r .figures .pupil)) 10 ≡ 0
+unfolding recordLowest
+pupil-low r h = figures-pupil-low (r .figures) (first-zero _ _ h .0)
+
+-- a record that may be sent, with its pupil at zero
+abbrev zeroRecord : Record
+zeroRecord = record { figures = noFigures; serial = replicate 9 32 }
+
+zero-sendable : recordLowest zeroRecord ≡ 0
+unfolding recordLowest figuresLowest frontLowest middleLowest backLowest failing first textOk every stopOk
+zero-sendable = refl
+
 module _ (front : Codec Front) (middle : Codec Middle) (view : Codec ℕ) (pupil : Codec ℤ) (zoom : Codec ℕ) where
-  form-at : (places : List Place) (at : ℕ) → Single front → Single middle → Single view → Single zoom →
-      ((f : Front) (m : Middle) (v : ℕ) → length (front .print f ++ (middle .print m ++ view .print v)) ≡ at) →
-      ((s : List ℕ) → fieldOf places 10 s ≡ take (pupil .width) (drop at s)) → ((y : ℤ) → pupil .lowest y ≡ failing (pupilOk y) 10) →
-      PupilAt (viaIso recordOf partsOf ((front ⊗ (middle ⊗ (view ⊗ (pupil ⊗ zoom)))) ⊗ serial)) pupil places at
-  unfolding serial
-  form-at places at f m v z long field low = record {
-    before = λ r. front .print (frontOf (r .figures)) ++ (middle .print (middleOf (r .figures)) ++ view .print (r .figures .view));
-    behind = λ r. zoom .print (r .figures .zoom) ++ serial .print (r .serial);
-    long = λ r. long (frontOf (r .figures)) (middleOf (r .figures)) (r .figures .view);
-    spelt = λ r.
-        let p = r .figures in
-        rw (f (frontOf p), m (middleOf p), v (p .view), z (p .zoom))
-        (around (front .print (frontOf p)) (middle .print (middleOf p)) (view .print (p .view)) (zoom .print (p .zoom)) (serial .print (r .serial)) (spellings pupil (p .pupil)));
-    field = field;
-    low = λ r h. low (r .figures .pupil) ∙ pupil-low r h;
-  }
+  -- fields 1 to 9
+  abbrev pub beforePupil : Groups → List ℕ
+  beforePupil p = front .print (p .0) ++ (middle .print (p .1 .0) ++ view .print (p .1 .1 .0))
 
-before-text : (f : Front) (m : Middle) (v : ℕ) → length (frontText .print f ++ (middleText .print m ++ tagged 86 9 (pointed 9 3 4095) .print v)) ≡ 54
+  module _ (f : Single front) (m : Single middle) (v : Single view) (z : Single zoom) where
+    pub groups-spelt : (p : Groups) →
+        spellings (front ⊗ (middle ⊗ (view ⊗ (pupil ⊗ zoom)))) p ≡ map (λ t. beforePupil p ++ (t ++ zoom .print (p .1 .1 .1 .1))) (spellings pupil (p .1 .1 .1 .0))
+    groups-spelt p =
+        rw (f (p .0), m (p .1 .0), v (p .1 .1 .0), z (p .1 .1 .1 .1))
+        (around (front .print (p .0)) (middle .print (p .1 .0)) (view .print (p .1 .1 .0)) (zoom .print (p .1 .1 .1 .1)) (spellings pupil (p .1 .1 .1 .0)))
+
+    form-at : (places : List Place) (at : ℕ) → ((p : Groups) → length (beforePupil p) ≡ at) →
+        ((s : List ℕ) → fieldOf places 10 s ≡ take (pupil .width) (drop at s)) → ((y : ℤ) → pupil .lowest y ≡ failing (pupilOk y) 10) →
+        PupilAt (viaIso recordOf partsOf ((front ⊗ (middle ⊗ (view ⊗ (pupil ⊗ zoom)))) ⊗ serial)) recordLowest pupilOf pupil places at
+    unfolding serial
+    form-at places at long field low = record {
+      before = λ r. beforePupil (groupsOf (r .figures));
+      behind = λ r. zoom .print (r .figures .zoom) ++ serial .print (r .serial);
+      long = λ r. long (groupsOf (r .figures));
+      spelt = λ r.
+          let p = groupsOf (r .figures) in
+          ap (λ (l : List (List ℕ)). each l (serial .print (r .serial) ∷ [])) (groups-spelt p)
+          ∙ and-behind (beforePupil p) (zoom .print (r .figures .zoom)) (serial .print (r .serial)) (spellings pupil (r .figures .pupil));
+      field = field;
+      low = λ r h. low (r .figures .pupil) ∙ pupil-low r h;
+      zero = (zeroRecord, zero-sendable, refl);
+    }
+
+pub before-text : (p : Groups) → length (frontText .print (p .0) ++ (middleText .print (p .1 .0) ++ viewText .print (p .1 .1 .0))) ≡ 54
 unfolding middleText pointed digits
-before-text f m v = length-append (frontText .print f) _ ∙ ap (λ (n : ℕ). n + 35) (front-text-long f)
+before-text p = length-append (frontText .print (p .0)) _ ∙ ap (λ (n : ℕ). n + 35) (front-text-long (p .0))
 
-pub text-at : PupilAt textForm pupilText textPlaces 54
+pub text-at : PupilAt textForm recordLowest pupilOf pupilText textPlaces 54
 unfolding textForm frontText middleText backText stop pointed pupilText textPlaces fieldOf
 text-at =
-    form-at frontText middleText (tagged 86 9 (pointed 9 3 4095)) pupilText (tagged 122 11 (number 11 10 48 4 1000)) textPlaces 54
-    (λ f. refl) (λ m. refl) (λ v. refl) (λ z. refl) before-text (λ s. refl) (λ y. refl)
+    form-at frontText middleText viewText pupilText (tagged 122 11 (number 11 10 48 4 1000)) (λ f. refl) (λ m. refl) (λ v. refl) (λ z. refl)
+    textPlaces 54 before-text (λ s. refl) (λ y. refl)
 
-pub packed-at : PupilAt packedForm pupilPacked packedPlaces 25
+pub packed-at : PupilAt packedForm recordLowest pupilOf pupilPacked packedPlaces 25
 unfolding packedForm frontPacked middlePacked backPacked pair digits pupilPacked packedPlaces fieldOf
 packed-at =
-    form-at frontPacked middlePacked (number 9 64 64 2 4095) pupilPacked (number 11 64 64 2 1000) packedPlaces 25
-    (λ f. refl) (λ m. refl) (λ v. refl) (λ z. refl) (λ f m v. refl) (λ s. refl) (λ y. refl)
+    form-at frontPacked middlePacked (number 9 64 64 2 4095) pupilPacked (number 11 64 64 2 1000) (λ f. refl) (λ m. refl) (λ v. refl) (λ z. refl)
+    packedPlaces 25 (λ p. refl) (λ s. refl) (λ y. refl)

@@ -1,6 +1,6 @@
 -- The text form and the packed form of a record: two tables of fields, in the order of document 01. Letters stand as their bytes: 68 is D.
 use Prim.Native.Nat.{ℕ}
-use mathlib.Core.List.{List}
+use mathlib.Core.List.{List, _++_}
 use lib.IntN.{ℤ}
 use Rattle.codec.specs.Codec.{Codec, number, text, tagged, _⊗_, viaIso}
 use Rattle.pointed.specs.Pointed.{pointed}
@@ -36,9 +36,17 @@ middleText =
     ⊗ (tagged 78 7 (number 7 10 48 7 topDistance)
     ⊗ tagged 70 8 (number 8 10 48 7 topDistance)))
 
+-- V
+abbrev pub viewText : Codec ℕ
+viewText = tagged 86 9 (pointed 9 3 4095)
+
+-- V, E, and the zoom as it is written
+abbrev pub backBy : Codec ℕ → Codec Back
+backBy zoom = viewText ⊗ (pupilText ⊗ zoom)
+
 -- V, E, z
 unfoldable pub backText : Codec Back
-backText = tagged 86 9 (pointed 9 3 4095) ⊗ (pupilText ⊗ tagged 122 11 (number 11 10 48 4 1000))
+backText = backBy (tagged 122 11 (number 11 10 48 4 1000))
 
 -- d and four groups, two groups, the shared pair
 unfoldable pub frontPacked : Codec Front
@@ -55,8 +63,11 @@ backPacked = number 9 64 64 2 4095 ⊗ (pupilPacked ⊗ number 11 64 64 2 1000)
 unfoldable pub serial : Codec (List ℕ)
 serial = tagged 83 12 (text 12 9)
 
+abbrev pub Groups : Type 0
+Groups = Front × (Middle × Back)
+
 abbrev pub Parts : Type 0
-Parts = (Front × (Middle × Back)) × List ℕ
+Parts = Groups × List ℕ
 
 abbrev pub frontOf : Figures → Front
 frontOf f = (f .focus, (f .aperture, (f .stop, f .tenth)))
@@ -67,7 +78,7 @@ middleOf f = (f .focal, (f .hyperfocal, (f .near, f .far)))
 abbrev pub backOf : Figures → Back
 backOf f = (f .view, (f .pupil, f .zoom))
 
-abbrev pub figuresOf : Front × (Middle × Back) → Figures
+abbrev pub figuresOf : Groups → Figures
 figuresOf p = record {
   focus = p .0 .0;
   aperture = p .0 .1 .0;
@@ -82,11 +93,20 @@ figuresOf p = record {
   zoom = p .1 .1 .1 .1;
 }
 
+abbrev pub groupsOf : Figures → Groups
+groupsOf f = (frontOf f, (middleOf f, backOf f))
+
 abbrev pub recordOf : Parts → Record
 recordOf p = record { figures = figuresOf (p .0); serial = p .1 }
 
+abbrev pub withSerial : Figures → List ℕ → Record
+withSerial f s = record { figures = f; serial = s }
+
 abbrev pub partsOf : Record → Parts
-partsOf r = ((frontOf (r .figures), (middleOf (r .figures), backOf (r .figures))), r .serial)
+partsOf r = (groupsOf (r .figures), r .serial)
+
+abbrev pub pupilOf : Record → ℤ
+pupilOf r = r .figures .pupil
 
 -- how many bytes a record's contents take: as text, and packed
 abbrev pub textLength : ℕ
@@ -94,6 +114,13 @@ textLength = 74
 
 abbrev pub packedLength : ℕ
 packedLength = 39
+
+-- fields 1 to 10 as text, 59 bytes
+abbrev pub tenText : Figures → List ℕ
+tenText f = frontText .print (frontOf f) ++ (middleText .print (middleOf f) ++ (viewText .print (f .view) ++ pupilText .print (f .pupil)))
+
+abbrev pub tenLength : ℕ
+tenLength = 59
 
 -- a record's contents as text
 unfoldable pub textForm : Codec Record

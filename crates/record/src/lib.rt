@@ -11,6 +11,9 @@ pub const TEXT_LENGTH: usize = 74;
 
 pub const PACKED_LENGTH: usize = 39;
 
+// And fields 1 to 10 of them as text.
+pub const TEN_LENGTH: usize = 59;
+
 // Fields 1 to 11: what a record and a measurement share.
 pub struct Figures {
     // 1

@@ -13,8 +13,7 @@ use Rattle.refusal.specs.declared.Verdict.the-variants.{Done, Refused}
 use Rattle.codec.specs.Codec.{Codec, Got, got, wrong}
 use Rattle.frame.specs.Frame.{endingWidth, isEnded, sums, opening}
 use Rattle.frame.specs.Message.{found, afterwards, readOf}
-use Rattle.record.specs.Record.{recordRead}
-use Rattle.record.specs.declared.Record.{Record}
+use Rattle.record.proofs.Told.{told-refused}
 use Rattle.fixed.specs.Fixed.{fixedRead}
 use Rattle.fixed.specs.Form.{fixedForm}
 use Rattle.fixed.specs.declared.Fixed.{Fixed}
@@ -59,13 +58,9 @@ fixed-16 : (a : Answer Fixed) → fixedRead a .verdict ≡ Refused State → a �
 fixed-16 (accepted f) e = never (cc)
 fixed-16 (refused x) e = cc
 
-record-16 : (a : Answer Record) → recordRead a .verdict ≡ Refused State → a ≡ refused State
-record-16 (accepted f) e = never (cc)
-record-16 (refused x) e = cc
-
 told-16 : (s : Setup) (opened : Bool) (m : Answer (List ℕ)) → toldAs (readingOf s opened m) .verdict ≡ Refused State → m ≡ refused State
 unfolding toldAs readingOf
-told-16 s true m e = read-16 (formOf s) (s .checksum) m (record-16 _ e)
+told-16 s true m e = read-16 (formOf s) (s .checksum) m (told-refused _ e)
 told-16 s false m e = read-16 fixedForm false m (fixed-16 _ e)
 
 -- ---- the cutter

@@ -7,7 +7,7 @@ use lib.Dec.{eqb}
 use Rattle.refusal.specs.Refusal.{numberOf, valueOf}
 use Rattle.refusal.specs.Promises.{Numbers}
 use Rattle.refusal.specs.declared.Refusal.{Refusal}
-use Rattle.refusal.specs.declared.Refusal.the-variants.{Field, Room, Length, End, Checksum, Contents, Dropped, Setting, TooLong, Form, State}
+use Rattle.refusal.specs.declared.Refusal.the-variants.{Field, Room, Length, End, Checksum, Contents, Dropped, Setting, TooLong, Form, Lost, State}
 
 -- the refusal with this number and value; 16 for a number that is none
 abbrev refusalBy : ℕ → ℕ → Refusal
@@ -21,7 +21,8 @@ refusalBy n v =
     (cond (eqb n 7) Dropped
     (cond (eqb n 8) (Setting v)
     (cond (eqb n 9) TooLong
-    (cond (eqb n 10) Form State)))))))))
+    (cond (eqb n 10) Form
+    (cond (eqb n 11) Lost State))))))))))
 
 back : (x : Refusal) → refusalBy (numberOf x) (valueOf x) ≡ x
 back (Field i) = refl
@@ -34,6 +35,7 @@ back Dropped = refl
 back (Setting i) = refl
 back TooLong = refl
 back Form = refl
+back Lost = refl
 back State = refl
 
 not-zero : (x : Refusal) → numberOf x ≡ 0 → ⊥
@@ -47,6 +49,7 @@ not-zero Dropped e = absurd (omega arith)
 not-zero (Setting i) e = absurd (omega arith)
 not-zero TooLong e = absurd (omega arith)
 not-zero Form e = absurd (omega arith)
+not-zero Lost e = absurd (omega arith)
 not-zero State e = absurd (omega arith)
 
 pub numbers : Numbers

@@ -1,7 +1,7 @@
--- Document 01's table of refusal numbers, with 9 and 10, which requests [1] and [3] give.
+-- Document 01's table of refusal numbers, with 9, 10 and 11, which requests [1], [3] and [6] give.
 use Prim.Native.Nat.{ℕ}
 use Rattle.refusal.specs.declared.Refusal.{Refusal}
-use Rattle.refusal.specs.declared.Refusal.the-variants.{Field, Room, Length, End, Checksum, Contents, Dropped, Setting, TooLong, Form, State}
+use Rattle.refusal.specs.declared.Refusal.the-variants.{Field, Room, Length, End, Checksum, Contents, Dropped, Setting, TooLong, Form, Lost, State}
 
 -- the column 'No.'
 abbrev pub numberOf : Refusal → ℕ
@@ -15,6 +15,7 @@ numberOf Dropped = 7
 numberOf (Setting i) = 8
 numberOf TooLong = 9
 numberOf Form = 10
+numberOf Lost = 11
 numberOf State = 16
 
 -- the column 'Also returned'
@@ -29,4 +30,5 @@ valueOf Dropped = 0
 valueOf (Setting i) = i
 valueOf TooLong = 0
 valueOf Form = 0
+valueOf Lost = 0
 valueOf State = 0

@@ -22,6 +22,8 @@ pub enum Refusal {
     TooLong,
     // 10: a line of a capture of other form than its three.
     Form,
+    // 11: thousandths that an old line cannot hold.
+    Lost,
     // 16: a handed-in state, collector, cutter, run or follower that is not one of ours.
     State,
 }
@@ -47,6 +49,7 @@ pub fn number_of(r: Refusal) -> u32
         Refusal::Setting(_) => 8,
         Refusal::TooLong => 9,
         Refusal::Form => 10,
+        Refusal::Lost => 11,
         Refusal::State => 16,
     }
 }
@@ -66,6 +69,7 @@ pub fn value_of(r: Refusal) -> usize
         Refusal::Setting(i) => i as usize,
         Refusal::TooLong => 0,
         Refusal::Form => 0,
+        Refusal::Lost => 0,
         Refusal::State => 0,
     }
 }

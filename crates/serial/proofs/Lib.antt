@@ -1,2 +1,3 @@
 pub mod Field
+pub mod Given
 pub mod Unique

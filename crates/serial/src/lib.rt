@@ -1,5 +1,7 @@
 // The serial, field 12: S and nine bytes of text, the same in both forms of a record.
-ghost use Rattle.serial.specs.Contracts.{PutSerial, NineOf};
+use record::Figures;
+use record::Record;
+ghost use Rattle.serial.specs.Contracts.{PutSerial, NineOf, RecordFrom};
 
 // Writes S and the nine bytes.
 pub fn put_serial(out: &mut [u8], at: usize, text: [u8; 9])
@@ -19,4 +21,13 @@ pub fn nine_of(s: &[u8]) -> [u8; 9]
     let mut nine = [0; 9];
     codec::put_item(&mut nine, s);
     nine
+}
+
+// The record of fields 1 to 11 and a serial of any length. Another than nine bytes is left as zeros, which no text holds:
+// the writers refuse it as field 12.
+pub fn record_from(figures: Figures, text: &[u8]) -> Record
+    ensures { λ r. ⌜ RecordFrom figures (now (text .entry)) r ⌝ }
+{
+    let serial = nine_of(text);
+    Record { figures, serial }
 }

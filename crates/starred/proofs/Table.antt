@@ -12,8 +12,9 @@ use Rattle.pupil.specs.Pupil.{pupilText, pupilPacked}
 use Rattle.record.specs.Forms.{frontText, middleText, backText, frontPacked, middlePacked, backPacked, serial, textForm, packedForm}
 use Rattle.record.specs.Places.{textPlaces, packedPlaces}
 use Rattle.units.specs.Units.{byUnit, sizeIn, numberIn, inRange, conversion}
+use Rattle.archive.specs.Old.{oldZoom, oldBack, oldForm}
 use Rattle.bench_lens.specs.Bench.{letterOf}
-use Rattle.starred.specs.Starred.{likeR, recordR, Session, textR, packedR, Starred, Amended}
+use Rattle.starred.specs.Starred.{likeR, recordR, Session, textR, packedR, Starred, Amended, OldLine}
 
 pub starred : Starred
 unfolding likeR recordR textR packedR digits fieldOf packedPlaces xorFrom sumOf ending pointed stopText stop pair pupilText pupilPacked frontText middleText backText frontPacked middlePacked backPacked serial textForm packedForm unless byUnit sizeIn numberIn inRange conversion
@@ -48,6 +49,19 @@ amended = record {
   text-plus-000 = refl;
   text-minus-001 = refl;
   text-space-000 = refl;
+}
+
+pub old-line : OldLine
+unfolding likeR textR digits value readDigits readField fieldSays passed both chained every pointed stopText stop pupilText frontText middleText oldBack oldZoom oldForm
+old-line = record {
+  r-at-057 = refl;
+  sends-000 = refl;
+  sends-100 = refl;
+  reads-057 = refl;
+  reads-100 = refl;
+  past-101 = refl;
+  without-point = refl;
+  without-z = refl;
 }
 
 pub session : Session

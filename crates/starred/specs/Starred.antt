@@ -1,7 +1,7 @@
--- Document 01's bench figures marked *: one table, one statement; and the figure that [5] amends.
+-- Document 01's bench figures marked *: one table, one statement; the figure that [5] amends; and those of [6]'s old line.
 use Prim.Native.Nat.{ℕ}
 use mathlib.Core.Bool.{true}
-use mathlib.Core.List.{List, [], _∷_}
+use mathlib.Core.List.{List, [], _∷_, _++_}
 use mathlib.Core.Path.{_≡_}
 use lib.IntN.{ℤ, pos, negsuc}
 use lib.ListN.{take, drop}
@@ -14,6 +14,7 @@ use Rattle.record.specs.Forms.{textForm, packedForm}
 use Rattle.record.specs.Places.{textPlaces, packedPlaces}
 use Rattle.record.specs.declared.Record.{Record}
 use Rattle.units.specs.Units.{conversion}
+use Rattle.archive.specs.Old.{oldZoom, oldForm}
 use Rattle.bench_lens.specs.Bench.{letterOf, benchSettings, benchMeasurement}
 
 -- record R, but for its focus distance, ring stop, tenth, entrance pupil and zoom
@@ -112,3 +113,14 @@ pub record Amended : Type 0 where
   pub text-plus-000 : pupilText .parse (0x45 ∷ 0x2B ∷ 0x30 ∷ 0x30 ∷ 0x30 ∷ []) ≡ got (pos 0)
   pub text-minus-001 : pupilText .parse (0x45 ∷ 0x2D ∷ 0x30 ∷ 0x30 ∷ 0x31 ∷ []) ≡ got (negsuc 0)
   pub text-space-000 : pupilText .parse (0x45 ∷ 0x20 ∷ 0x30 ∷ 0x30 ∷ 0x30 ∷ []) ≡ wrong 10
+
+-- [6]: R as an old line, and what its zoom is written as and read of: "zoom as z and x.xx in 0.00 to 1.00"
+pub record OldLine : Type 0 where
+  pub r-at-057 : oldForm .print (likeR 798 56 5 (pos 23) 570 .figures) ≡ take 59 textR ++ 0x7A ∷ 0x30 ∷ 0x2E ∷ 0x35 ∷ 0x37 ∷ []
+  pub sends-000 : oldZoom .print 0 ≡ 0x7A ∷ 0x30 ∷ 0x2E ∷ 0x30 ∷ 0x30 ∷ []
+  pub sends-100 : oldZoom .print 1000 ≡ 0x7A ∷ 0x31 ∷ 0x2E ∷ 0x30 ∷ 0x30 ∷ []
+  pub reads-057 : oldZoom .parse (0x7A ∷ 0x30 ∷ 0x2E ∷ 0x35 ∷ 0x37 ∷ []) ≡ got 570
+  pub reads-100 : oldZoom .parse (0x7A ∷ 0x31 ∷ 0x2E ∷ 0x30 ∷ 0x30 ∷ []) ≡ got 1000
+  pub past-101 : oldZoom .parse (0x7A ∷ 0x31 ∷ 0x2E ∷ 0x30 ∷ 0x31 ∷ []) ≡ wrong 11
+  pub without-point : oldZoom .parse (0x7A ∷ 0x30 ∷ 0x35 ∷ 0x37 ∷ 0x30 ∷ []) ≡ wrong 11
+  pub without-z : oldZoom .parse (0x5A ∷ 0x30 ∷ 0x2E ∷ 0x35 ∷ 0x37 ∷ []) ≡ wrong 11

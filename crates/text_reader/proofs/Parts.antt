@@ -3,11 +3,13 @@ use Prim.Native.Nat.{ℕ}
 use mathlib.Core.List.{List}
 use mathlib.Core.Path.{_≡_, refl}
 use native.Mathlib.Omega.{arith}
+use borrow.Author.Tests.{eq-eqb}
 use lib.ListN.{length, take, drop, length-take, length-drop}
-use lib.Seq.{drop-drop, length-take-le}
-use Rattle.laws.proofs.ListLaws.{last-part}
+use lib.Seq.{take-take, drop-drop, length-take-le}
+use Rattle.laws.proofs.ListLaws.{drop-of-take, last-part}
 use Rattle.digits.specs.Digits.{readDecimal}
-use Rattle.codec.specs.Codec.{both, fieldSays, readTagged, readWhole, parsed}
+use Rattle.digits.specs.declared.Field.{Field}
+use Rattle.codec.specs.Codec.{Codec, both, fieldSays, readTagged, readWhole, parsed}
 use Rattle.codec.proofs.Fields.{read-whole, parsed-whole, tagged-says, tagged-number}
 use Rattle.pointed.specs.Pointed.{pointed, readPointed}
 use Rattle.pointed.proofs.Exact.{pointed-read}
@@ -15,8 +17,9 @@ use Rattle.stop.specs.Stop.{stop, readStopText}
 use Rattle.stop.proofs.Exact.{stop-read}
 use Rattle.pupil.specs.Pupil.{pupilText, readPupilText, pupilSays}
 use Rattle.pupil.proofs.Exact.{text-read, text-width}
-use Rattle.record.specs.Forms.{frontText, middleText, backText}
+use Rattle.record.specs.Forms.{frontText, middleText, backBy, backText}
 use Rattle.record.specs.Record.{topDistance}
+use Rattle.text_reader.specs.Reader.{withZoom}
 
 pub front-width : frontText .width ≡ 19
 unfolding frontText stop
@@ -26,9 +29,13 @@ pub middle-width : middleText .width ≡ 29
 unfolding middleText
 middle-width = refl
 
-pub back-width : backText .width ≡ 16
+pub back-width : (zoom : Codec ℕ) → zoom .width ≡ 5 → backBy zoom .width ≡ 16
+unfolding pointed pupilText
+back-width zoom w = omega (arith, w)
+
+pub back-text-width : backText .width ≡ 16
 unfolding backText pointed pupilText
-back-width = refl
+back-text-width = refl
 
 module _ (s : List ℕ) where
   pub front-parts : length s ≡ 19 → parsed frontText 1 s ≡
@@ -65,20 +72,31 @@ module _ (s : List ℕ) where
         tagged-number 70 8 10 48 7 topDistance (drop 21 s),
       )
 
-  pub back-parts : length s ≡ 16 → parsed backText 9 s ≡
-      both (fieldSays 9 (readWhole 6 (readTagged 86 (readPointed 4095)) (take 6 s)))
-      (both (pupilSays (readPupilText (take 5 (drop 6 s)))) (fieldSays 11 (readTagged 122 (readDecimal 1000) (take 5 (drop 11 s)))))
-  unfolding backText pointed
-  back-parts l =
+  pub zoom-parts : (zoom : Field) → length s ≡ 11 → withZoom s zoom ≡
+      both (fieldSays 9 (readWhole 6 (readTagged 86 (readPointed 4095)) (take 6 s))) (both (pupilSays (readPupilText (take 5 (drop 6 s)))) (fieldSays 11 zoom))
+  unfolding withZoom pointed
+  zoom-parts zoom l =
       let view : length (drop 1 (take 6 s)) ≡ 5 = simp (length-drop, length-take) (omega arith) in
-      let pupil : length (take 5 (drop 6 s)) ≡ 5 = length-take-le 5 (drop 6 s) (simp length-drop (omega arith)) in
       rw (
-        parsed-whole backText 9 back-width s l,
-        text-width,
-        drop-drop 5 6 s,
-        last-part 11 5 s l,
+        eq-eqb (length s) 11 l,
+        last-part 6 5 s l,
         read-whole 6 (readTagged 86 (readPointed 4095)) (take 6 s) (length-take-le 6 s (omega arith)),
         tagged-says 86 (readPointed 4095) 9 (pointed 9 3 4095) (take 6 s) (pointed-read 9 3 4095 (drop 1 (take 6 s)) view),
-        text-read (take 5 (drop 6 s)) pupil,
-        tagged-number 122 11 10 48 4 1000 (drop 11 s),
+        text-read (drop 6 s) (simp length-drop (omega arith)),
+      )
+
+  -- whatever zoom stands behind V and E
+  pub back-parts : (zoom : Codec ℕ) (f : Field) → zoom .width ≡ 5 → length s ≡ 16 → fieldSays 11 f ≡ zoom .parse (take 5 (drop 11 s)) →
+      withZoom (take 11 s) f ≡ parsed (backBy zoom) 9 s
+  unfolding withZoom pointed
+  back-parts zoom f w l e =
+      rw (
+        parsed-whole (backBy zoom) 9 (back-width zoom w) s l,
+        eq-eqb (length (take 11 s)) 11 (length-take-le 11 s (omega arith)),
+        take-take 6 11 s (omega arith),
+        drop-of-take 6 5 11 s refl,
+        text-width,
+        drop-drop 5 6 s,
+        e,
+        last-part 11 5 s l,
       )

@@ -9,7 +9,7 @@ use Rattle.record.specs.declared.RecordRead.{RecordRead}
 use Rattle.gather.specs.declared.Four.{Four}
 use Rattle.gather.specs.declared.Three.{Three}
 use Rattle.gather.proofs.Unique.{one-four, one-three}
-use Rattle.text_reader.specs.Contracts.{ReadView, ReadFront, ReadMiddle, ReadBack, ReadContents, ReadText}
+use Rattle.text_reader.specs.Contracts.{ReadView, ReadFront, ReadMiddle, WithZoom, ReadBack, ReadContents, ReadText}
 
 pub one-read-view : (s : List ℕ) {r r′ : Field} → ReadView s r → ReadView s r′ → r ≡ r′
 one-read-view s = one-answer
@@ -19,6 +19,9 @@ one-read-front s = one-four
 
 pub one-read-middle : (s : List ℕ) {r r′ : Four} → ReadMiddle s r → ReadMiddle s r′ → r ≡ r′
 one-read-middle s = one-four
+
+pub one-with-zoom : (s : List ℕ) (zoom : Field) {r r′ : Three} → WithZoom s zoom r → WithZoom s zoom r′ → r ≡ r′
+one-with-zoom s zoom = one-three
 
 pub one-read-back : (s : List ℕ) {r r′ : Three} → ReadBack s r → ReadBack s r′ → r ≡ r′
 one-read-back s = one-three

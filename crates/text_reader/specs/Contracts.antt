@@ -13,6 +13,7 @@ use Rattle.record.specs.declared.RecordRead.{RecordRead}
 use Rattle.gather.specs.Gather.{fourSays, threeSays}
 use Rattle.gather.specs.declared.Four.{Four}
 use Rattle.gather.specs.declared.Three.{Three}
+use Rattle.text_reader.specs.Reader.{withZoom}
 
 abbrev pub ReadView : List ℕ → Field → Type 0
 ReadView s r = r ≡ readWhole 6 (readTagged 86 (readPointed 4095)) s
@@ -22,6 +23,9 @@ ReadFront s r = fourSays r ≡ parsed frontText 1 s
 
 abbrev pub ReadMiddle : List ℕ → Four → Type 0
 ReadMiddle s r = fourSays r ≡ parsed middleText 5 s
+
+abbrev pub WithZoom : List ℕ → Field → Three → Type 0
+WithZoom s zoom r = threeSays r ≡ withZoom s zoom
 
 abbrev pub ReadBack : List ℕ → Three → Type 0
 ReadBack s r = threeSays r ≡ parsed backText 9 s

@@ -13,7 +13,7 @@ ghost use mathlib.Core.Path.{_≡_};
 ghost use lib.ListN.{length};
 ghost use Rattle.codec.specs.Codec.{readTagged};
 ghost use Rattle.stop.specs.Stop.{readStopText};
-ghost use Rattle.text_reader.specs.Contracts.{ReadView, ReadFront, ReadMiddle, ReadBack, ReadContents, ReadText};
+ghost use Rattle.text_reader.specs.Contracts.{ReadView, ReadFront, ReadMiddle, WithZoom, ReadBack, ReadContents, ReadText};
 
 // Reads t and a stop.
 fn read_stop(s: &[u8]) -> Field
@@ -83,11 +83,11 @@ pub fn read_middle(s: &[u8]) -> Four
     Four::Found(focal, hyperfocal, near, far)
 }
 
-// Reads V, E, z.
-pub fn read_back(s: &[u8]) -> Three
-    ensures { λ r. ⌜ ReadBack (now (s .entry)) r ⌝ }
+// Reads V and E, before a zoom that was read.
+pub fn with_zoom(s: &[u8], zoom: Field) -> Three
+    ensures { λ r. ⌜ WithZoom (now (s .entry)) zoom r ⌝ }
 {
-    if s.len() != 16 {
+    if s.len() != 11 {
         return Three::Wrong(9);
     }
     let Field::Value(view) = read_view(&s[0..6]) else {
@@ -96,10 +96,20 @@ pub fn read_back(s: &[u8]) -> Three
     let Signed::Number(pupil) = pupil::read_pupil_text(&s[6..11]) else {
         return Three::Wrong(10);
     };
-    let Field::Value(zoom) = codec::read_tagged(&s[11..16], b'z', 1000) else {
+    let Field::Value(thousandths) = zoom else {
         return Three::Wrong(11);
     };
-    Three::Found(view, pupil, zoom)
+    Three::Found(view, pupil, thousandths)
+}
+
+// Reads V, E, z.
+pub fn read_back(s: &[u8]) -> Three
+    ensures { λ r. ⌜ ReadBack (now (s .entry)) r ⌝ }
+{
+    if s.len() != 16 {
+        return Three::Wrong(9);
+    }
+    with_zoom(&s[0..11], codec::read_tagged(&s[11..16], b'z', 1000))
 }
 
 // Reads the contents: 6 with the first wrong field.

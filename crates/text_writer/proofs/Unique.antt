@@ -5,8 +5,12 @@ use mathlib.Core.List.{List}
 use mathlib.Core.Path.{_≡_}
 use Rattle.laws.proofs.OneAnswer.{one-answer, one-outcome}
 use Rattle.frame.specs.declared.Wrote.{Wrote}
+use Rattle.record.specs.declared.Figures.{Figures}
 use Rattle.record.specs.declared.Record.{Record}
-use Rattle.text_writer.specs.Contracts.{PutTextRecord, WriteText}
+use Rattle.text_writer.specs.Contracts.{PutTen, PutTextRecord, WriteText}
+
+pub one-put-ten : (out : List ℕ) (f : Figures) {after after′ : List ℕ} → PutTen out f after → PutTen out f after′ → after ≡ after′
+one-put-ten out f = one-answer
 
 pub one-put-text-record : (out : List ℕ) (r : Record) {after after′ : List ℕ} →
     PutTextRecord out r after → PutTextRecord out r after′ → after ≡ after′

@@ -7,8 +7,12 @@ use Rattle.laws.specs.Over.{over}
 use Rattle.refusal.specs.declared.Refusal.the-variants.{Field}
 use Rattle.frame.specs.Message.{WritesMessage}
 use Rattle.frame.specs.declared.Wrote.{Wrote}
-use Rattle.record.specs.Forms.{textForm}
+use Rattle.record.specs.Forms.{tenText, textForm}
+use Rattle.record.specs.declared.Figures.{Figures}
 use Rattle.record.specs.declared.Record.{Record}
+
+abbrev pub PutTen : List ℕ → Figures → List ℕ → Type 0
+PutTen out f after = after ≡ over out 0 (tenText f)
 
 abbrev pub PutTextRecord : List ℕ → Record → List ℕ → Type 0
 PutTextRecord out r after = after ≡ over out 0 (textForm .print r)

@@ -3,18 +3,19 @@
 use frame::Wrote;
 use record::Figures;
 use record::Record;
+use record::TEN_LENGTH;
 use record::TEXT_LENGTH;
 use refusal::Refusal;
 ghost use mathlib.Core.Path.{_≡_};
 ghost use Prim.Native.Nat.{_≤_};
 ghost use lib.ListN.{length};
 ghost use Rattle.laws.specs.Over.{over};
-ghost use Rattle.record.specs.Forms.{frontText, middleText, backText, textLength, frontOf, middleOf, backOf};
-ghost use Rattle.text_writer.specs.Contracts.{PutTextRecord, WriteText};
+ghost use Rattle.record.specs.Forms.{frontText, middleText, tenLength, frontOf, middleOf};
+ghost use Rattle.text_writer.specs.Contracts.{PutTen, PutTextRecord, WriteText};
 
 // Writes D, T, t, +.
 fn put_front(out: &mut [u8], f: Figures)
-    requires { ⌜ textLength ≤ length (now out) ⌝ }
+    requires { ⌜ tenLength ≤ length (now out) ⌝ }
     ensures { λ _. ⌜ now (out .exit) ≡ over (now (out .entry)) 0 (frontText .print (frontOf f)) ⌝ }
 {
     codec::put_tagged(out, 0, b'D', 7, f.focus);
@@ -26,7 +27,7 @@ fn put_front(out: &mut [u8], f: Figures)
 
 // Writes Z, H, N, F.
 fn put_middle(out: &mut [u8], f: Figures)
-    requires { ⌜ textLength ≤ length (now out) ⌝ }
+    requires { ⌜ tenLength ≤ length (now out) ⌝ }
     ensures { λ _. ⌜ now (out .exit) ≡ over (now (out .entry)) 19 (middleText .print (middleOf f)) ⌝ }
 {
     codec::put_tagged(out, 19, b'Z', 4, f.focal);
@@ -35,15 +36,18 @@ fn put_middle(out: &mut [u8], f: Figures)
     codec::put_tagged(out, 40, b'F', 7, f.far);
 }
 
-// Writes V, E, z.
-fn put_back(out: &mut [u8], f: Figures)
-    requires { ⌜ textLength ≤ length (now out) ⌝ }
-    ensures { λ _. ⌜ now (out .exit) ≡ over (now (out .entry)) 48 (backText .print (backOf f)) ⌝ }
+// Writes fields 1 to 10, the same in an old line; nothing where they do not fit.
+pub fn put_ten(out: &mut [u8], f: Figures)
+    ensures { λ _. ⌜ PutTen (now (out .entry)) f (now (out .exit)) ⌝ }
 {
+    if out.len() < TEN_LENGTH {
+        return;
+    }
+    put_front(out, f);
+    put_middle(out, f);
     lent::put_byte(out, 48, b'V');
     pointed::put_pointed(out, 49, 3, f.view);
     pupil::put_pupil_text(out, 54, f.pupil);
-    codec::put_tagged(out, 59, b'z', 4, f.zoom);
 }
 
 // Writes a record's contents; nothing where they do not fit.
@@ -55,9 +59,8 @@ pub fn put_text_record(out: &mut [u8], r: Record)
     }
     let figures = r.figures;
     let serial = r.serial;
-    put_front(out, figures);
-    put_middle(out, figures);
-    put_back(out, figures);
+    put_ten(out, figures);
+    codec::put_tagged(out, TEN_LENGTH, b'z', 4, figures.zoom);
     serial::put_serial(out, 64, serial);
 }
 

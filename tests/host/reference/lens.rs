@@ -1,5 +1,5 @@
-//! The lens side's messages in plain Rust, written from document 01 alone: the text record (D), the packed record (Kd),
-//! the fixed data (N), the owner's part, the unit conversion and the checksum.
+//! The lens side's messages in plain Rust, written from document 01 and the requests alone: the text record (D), the packed
+//! record (Kd), the fixed data (N), the owner's part, old text records, the unit conversion and the checksum.
 //!
 //! Values are fields 1 to 11 as they stand in document 01's table (`fields[0]` is field 1). A function answers what is
 //! asked for or a refusal: document 01's number and the value that comes with it.
@@ -165,21 +165,60 @@ pub fn text_message(r: &Record, with_sum: bool) -> Result<Vec<u8>, Refusal> {
     Ok(sealed(m, with_sum))
 }
 
-pub fn text_record(message: &[u8], with_sum: bool) -> Result<Record, Refusal> {
-    let mut rest = opened(message, with_sum, TEXT)?;
+/// Fields 1 to 11, taken off the front, each read from its text by `value`.
+fn text_fields(rest: &mut &[u8], value: fn(usize, &[u8]) -> Option<i64>) -> Result<[i64; 11], Refusal> {
     let mut fields = [0; 11];
     for field in 1..=11 {
-        let tag = take(&mut rest, 1)[0];
-        let text = take(&mut rest, TEXT_WIDTHS[field - 1]);
-        fields[field - 1] =
-            value_of_text(field, text).filter(|&v| tag == TAGS[field - 1] && fits(field, v)).ok_or(refusal(6, field))?;
+        let tag = take(rest, 1)[0];
+        let text = take(rest, TEXT_WIDTHS[field - 1]);
+        fields[field - 1] = value(field, text).filter(|&v| tag == TAGS[field - 1] && fits(field, v)).ok_or(refusal(6, field))?;
     }
-    Ok(Record { fields, serial: tagged_serial(rest)? })
+    Ok(fields)
+}
+
+pub fn text_record(message: &[u8], with_sum: bool) -> Result<Record, Refusal> {
+    let mut rest = opened(message, with_sum, TEXT)?;
+    Ok(Record { fields: text_fields(&mut rest, value_of_text)?, serial: tagged_serial(rest)? })
 }
 
 /// Field 12 of both forms: S and nine text bytes.
 fn tagged_serial(rest: &[u8]) -> Result<Vec<u8>, Refusal> {
     rest.strip_prefix(b"S").filter(|serial| is_text(serial, 9)).map(<[u8]>::to_vec).ok_or(refusal(6, 12))
+}
+
+// ---- request 6: the text record of old zoom firmware, without S and the serial, its zoom as x.xx (000, 6.1.3, notes 3 and 4)
+
+pub const OLD: usize = 64;
+
+/// As in the present form, but the zoom in hundredths.
+fn value_of_old_text(field: usize, text: &[u8]) -> Option<i64> {
+    match (field, text) {
+        (11, &[a, b'.', b, c]) => number(&[a, b, c]).map(|hundredths| 10 * hundredths),
+        (11, _) => None,
+        _ => value_of_text(field, text),
+    }
+}
+
+/// An old line in the present form; refusal 1 is left for the serial alone.
+pub fn new_line(message: &[u8], serial: &[u8]) -> Result<Vec<u8>, Refusal> {
+    let fields = text_fields(&mut opened(message, false, OLD)?, value_of_old_text)?;
+    text_message(&Record { fields, serial: serial.to_vec() }, false)
+}
+
+/// A present line in the old form.
+pub fn old_line(message: &[u8]) -> Result<Vec<u8>, Refusal> {
+    let r = text_record(message, false)?;
+    let thousandths = r.fields[10];
+    if thousandths % 10 != 0 {
+        return Err(refusal(11, 0));
+    }
+    let mut m = Vec::with_capacity(OLD + 2);
+    for field in 1..=10 {
+        m.push(TAGS[field - 1]);
+        m.extend(text_of(field, r.fields[field - 1]).bytes());
+    }
+    m.extend(format!("z{}.{:02}", thousandths / 1000, thousandths % 1000 / 10).bytes());
+    Ok(sealed(m, false))
 }
 
 // ---- the packed record
@@ -366,6 +405,14 @@ pub fn read_packed(message: &[u8], with_sum: bool, out: &mut [u8]) -> Result<usi
 
 pub fn read_fixed(message: &[u8], with_sum: bool, out: &mut [u8]) -> Result<usize, Refusal> {
     put(fixed_data(message, with_sum).map(fixed_bytes), out)
+}
+
+pub fn old_to_new(message: &[u8], serial: &[u8], out: &mut [u8]) -> Result<usize, Refusal> {
+    put(new_line(message, serial), out)
+}
+
+pub fn new_to_old(message: &[u8], out: &mut [u8]) -> Result<usize, Refusal> {
+    put(old_line(message), out)
 }
 
 pub fn owner_start(message: &[u8], with_sum: bool) -> Result<usize, Refusal> {

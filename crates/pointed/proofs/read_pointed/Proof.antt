@@ -9,12 +9,13 @@ use borrow.Author.Tests.{leb-true, leb-false, le-leb, lt-leb, lt-ltb, le-ltb}
 use lib.Dec.{leb}
 use lib.ListN.{length, take, drop, length-drop}
 use lib.Seq.{take-all, length-take-le}
-use Rattle.laws.proofs.Tests.{yes, no, cond-yes, cond-no, told, never}
+use Rattle.laws.proofs.Tests.{yes, no, cond-yes, cond-no, told}
 use Rattle.digits.specs.Digits.{value, areDigits, only, readDigits, readField, readDecimal, widest}
 use Rattle.digits.specs.declared.Field.{Field}
 use Rattle.digits.specs.declared.Field.the-variants.{Value, Wrong}
 use Rattle.digits.proofs.Laws.{digits-read}
-use Rattle.codec.specs.Codec.{begins, readTagged}
+use Rattle.codec.specs.Codec.{readTagged}
+use Rattle.codec.proofs.Fields.{tagged-low}
 use Rattle.pointed.specs.Pointed.{point, joined, readPointed}
 use Rattle.pointed.proofs.read_pointed.Statement.{statement}
 use Rattle.pointed.proofs.read_pointed.Tie as tie
@@ -22,13 +23,6 @@ use Rattle.pointed.proofs.read_pointed.Tie as tie
 -- a number that was read is at most what was asked for
 decimal-low : (top n : ℕ) (s : List ℕ) → readDecimal top s ≡ Value n → n ≤ top
 decimal-low top n s e = digits-read 10 48 (omega arith) s n top e .0
-
-tagged-low : (t top n : ℕ) (s : List ℕ) → readTagged t (readDecimal top) s ≡ Value n → n ≤ top
-unfolding readTagged
-tagged-low t top n s e =
-    told (begins t s)
-    (λ y. decimal-low top n (drop 1 s) (sym (cond-yes _ Wrong y) ∙ e))
-    (λ no. let z : Wrong ≡ Value n = sym (cond-no _ Wrong no) ∙ e in never (cc))
 
 -- a whole part past top / 10 is wrong with any tenth
 past : (top v : ℕ) (t : Bool) (g : Field) → top / 10 < v → joined top (only t v) g ≡ Wrong

@@ -1,97 +1,26 @@
--- `text_reader::read_back` meets its contract: the first wrong field of three, or all of them. Assumes nothing.
-use Prim.Native.Nat.{ℕ}
-use mathlib.Core.List.{List}
-use mathlib.Core.Path.{_≡_, sym, ap, _∙_}
-use lib.ListN.{take, drop}
-use Rattle.codec.specs.Codec.{got, fieldSays, readTagged, readWhole}
-use Rattle.codec.proofs.Fields.{gave, refused, wrong-first, wrong-later, right-both, parsed-other}
-use Rattle.pointed.specs.Pointed.{readPointed}
-use Rattle.pupil.specs.Pupil.{readPupilText, pupilSays}
+-- `text_reader::read_back` meets its contract: V and E with the zoom behind them. Assumes nothing.
+use mathlib.Core.Path.{refl, sym, ap, _∙_}
+use Rattle.codec.specs.Codec.{fieldSays, number, tagged}
+use Rattle.codec.proofs.Fields.{tagged-number, parsed-other}
 use Rattle.record.specs.Forms.{backText}
 use Rattle.gather.specs.Gather.{threeSays}
-use Rattle.text_reader.proofs.Parts.{back-width, back-parts}
-use mir.Syntax.{w32}
-use mir.Val.{toZ, ofZ}
-use mir.Facts.{toZ-ofZ}
+use Rattle.text_reader.proofs.Parts.{back-text-width, back-parts}
 use borrow.Author.Needs.{needs}
 use Rattle.text_reader.proofs.read_back.Statement.{statement}
 use Rattle.text_reader.proofs.read_back.Tie as tie
 
--- the message, and what each field gave
-abbrev S : tie.Else1 → List ℕ
-S e = e .before .before .args .s .now
-
-abbrev S1 : tie.After-view → List ℕ
-S1 d = S (d .before .before .before .before)
-
-abbrev S2 : tie.After-pupil → List ℕ
-S2 d = S1 (d .before .before .before .before .before)
-
-view-found : (d : tie.After-view) → fieldSays 9 (readWhole 6 (readTagged 86 (readPointed 4095)) (take 6 (S1 d))) ≡ got (d .view .given .0 .0)
-view-found d = gave 9 (d .before .before .read-view .ensures) (d .view .given .1)
-
-pupil-found : (d : tie.After-pupil) → pupilSays (readPupilText (take 5 (drop 6 (S2 d)))) ≡ got (d .pupil .given .0 .0)
-unfolding pupilSays
-pupil-found d = ap pupilSays (sym (d .before .before .read-pupil-text .ensures) ∙ d .pupil .given .1)
-
 returns : tie.Need-returns
 unfolding threeSays
-returns c = sym (parsed-other backText 9 back-width _ (c .if1 .taken))
+returns c = sym (parsed-other backText 9 back-text-width _ (c .if1 .taken))
 
-sub-read-view : tie.Need-sub-read-view
-sub-read-view c = search needs
+sub-with-zoom : tie.Need-sub-with-zoom
+sub-with-zoom c = search needs
 
-part-read-view-start : tie.Need-part-read-view-start
-part-read-view-start c = search needs
+part-with-zoom-start : tie.Need-part-with-zoom-start
+part-with-zoom-start c = search needs
 
-part-read-view-end : tie.Need-part-read-view-end
-part-read-view-end c = search needs
-
-read-view-requires : tie.Need-read-view-requires
-read-view-requires c κs = search needs
-
-enum-known-view : tie.Need-enum-known-view
-enum-known-view c = search needs
-
-enum-told : tie.Need-enum-told
-enum-told c = search needs
-
-returns-2 : tie.Need-returns-2
-unfolding threeSays pupilSays
-returns-2 c =
-    let r = c .before .before in
-    let b = r .before .before in
-    sym
-    (back-parts (S b) (b .if1 .left)
-    ∙ wrong-first _ (refused 9 (r .read-view .ensures) (c .enum-told .given .1)))
-
-sub-read-pupil-text : tie.Need-sub-read-pupil-text
-sub-read-pupil-text c = search needs
-
-part-read-pupil-text-start : tie.Need-part-read-pupil-text-start
-part-read-pupil-text-start c = search needs
-
-part-read-pupil-text-end : tie.Need-part-read-pupil-text-end
-part-read-pupil-text-end c = search needs
-
-read-pupil-text-requires : tie.Need-read-pupil-text-requires
-read-pupil-text-requires c κs = search needs
-
-enum-known-pupil : tie.Need-enum-known-pupil
-enum-known-pupil c = search needs
-
-enum-told-2 : tie.Need-enum-told-2
-enum-told-2 c = search needs
-
-returns-3 : tie.Need-returns-3
-unfolding threeSays pupilSays
-returns-3 c =
-    let r = c .before .before in
-    let d1 = r .before .before .before in
-    let b = d1 .before .before .before .before in
-    sym
-    (back-parts (S b) (b .if1 .left)
-    ∙ wrong-later (view-found d1) (wrong-first _ (ap pupilSays (sym (r .read-pupil-text .ensures) ∙ c .enum-told2 .given .1))))
+part-with-zoom-end : tie.Need-part-with-zoom-end
+part-with-zoom-end c = search needs
 
 sub-read-tagged : tie.Need-sub-read-tagged
 sub-read-tagged c = search needs
@@ -105,59 +34,28 @@ part-read-tagged-end c = search needs
 read-tagged-requires : tie.Need-read-tagged-requires
 read-tagged-requires c κs = search needs
 
-enum-known-zoom : tie.Need-enum-known-zoom
-enum-known-zoom c = search needs
+with-zoom-requires : tie.Need-with-zoom-requires
+with-zoom-requires c κs = search needs
 
-enum-told-3 : tie.Need-enum-told-3
-enum-told-3 c = search needs
-
-returns-4 : tie.Need-returns-4
-unfolding threeSays pupilSays
-returns-4 c =
-    let r = c .before .before in
-    let d2 = r .before .before .before in
-    let d1 = d2 .before .before .before .before .before in
-    let b = d1 .before .before .before .before in
-    sym
-    (back-parts (S b) (b .if1 .left)
-    ∙ wrong-later (view-found d1) (wrong-later (pupil-found d2) (refused 11 (r .read-tagged .ensures) (c .enum-told3 .given .1))))
-
-returns-5 : tie.Need-returns-5
-unfolding threeSays pupilSays
-returns-5 c =
-    let d3 = c .before in
-    let d2 = d3 .before .before .before .before .before in
-    let d1 = d2 .before .before .before .before .before in
-    let b = d1 .before .before .before .before in
-    let same : toZ w32 (ofZ w32 (d2 .pupil .given .0 .0)) ≡ d2 .pupil .given .0 .0 = toZ-ofZ (search needs) in
-    sym
-    (back-parts (S b) (b .if1 .left)
-    ∙ right-both (view-found d1) (right-both (pupil-found d2 ∙ ap got (sym same)) (gave 11 (d3 .before .before .read-tagged .ensures) (d3 .zoom .given .1))))
+returns-2 : tie.Need-returns-2
+unfolding backText
+returns-2 c =
+    let z = c .before in
+    let e = z .before .before .before in
+    c .with-zoom .ensures
+    ∙ back-parts _ (tagged 122 11 (number 11 10 48 4 1000)) _ refl (e .if1 .left) (ap (fieldSays 11) (z .read-tagged .ensures) ∙ tagged-number 122 11 10 48 4 1000 _)
 
 pub read-back-spec : {M : Type 1} → statement M
 read-back-spec =
     tie.close
     (tie.spec
     returns
-    sub-read-view
-    part-read-view-start
-    part-read-view-end
-    read-view-requires
-    enum-known-view
-    enum-told
-    returns-2
-    sub-read-pupil-text
-    part-read-pupil-text-start
-    part-read-pupil-text-end
-    read-pupil-text-requires
-    enum-known-pupil
-    enum-told-2
-    returns-3
+    sub-with-zoom
+    part-with-zoom-start
+    part-with-zoom-end
     sub-read-tagged
     part-read-tagged-start
     part-read-tagged-end
     read-tagged-requires
-    enum-known-zoom
-    enum-told-3
-    returns-4
-    returns-5)
+    with-zoom-requires
+    returns-2)

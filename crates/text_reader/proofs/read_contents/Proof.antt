@@ -10,7 +10,7 @@ use Rattle.record.specs.declared.Record.{Record}
 use Rattle.record.specs.declared.RecordRead.{RecordRead}
 use Rattle.record.proofs.Exact.{text-form-width}
 use Rattle.gather.proofs.Laws.{record-found}
-use Rattle.text_reader.proofs.Parts.{front-width, middle-width, back-width}
+use Rattle.text_reader.proofs.Parts.{front-width, middle-width, back-text-width}
 use borrow.Author.Needs.{needs}
 use Rattle.text_reader.proofs.read_contents.Statement.{statement}
 use Rattle.text_reader.proofs.read_contents.Tie as tie
@@ -87,7 +87,7 @@ returns-2 c =
     let s = e .before .before .args .s .now in
     c .with-serial .ensures
     ∙ ap read
-    (record-found frontText middleText backText 19 29 16 front-width middle-width back-width s (e .if1 .left) _ (f .read-front .ensures) (m .read-middle .ensures) (b .read-back .ensures) (g .gather .ensures)
+    (record-found frontText middleText backText 19 29 16 front-width middle-width back-text-width s (e .if1 .left) _ (f .read-front .ensures) (m .read-middle .ensures) (b .read-back .ensures) (g .gather .ensures)
     ∙ sym (parsed-whole textForm 1 text-form-width s (e .if1 .left)))
 
 pub read-contents-spec : {M : Type 1} → statement M

@@ -1,0 +1,4 @@
+pub mod Old
+pub mod Archive
+pub mod Contracts
+pub mod Promises

@@ -1,0 +1,75 @@
+/* The inputs of a command line, and a stream in pieces. Where a message of a stream ends is the library's to say. */
+#define _POSIX_C_SOURCE 200809L
+#include "bench.h"
+
+#include <errno.h>
+#include <unistd.h>
+
+/* ---- the inputs */
+
+static bool take_input(const char *command, FILE *in, const char *where, input_taker take, void *with)
+{
+    bool whole = take(in, where, with);
+    if (!whole)
+        fprintf(stderr, "heron-bench %s: %s: cannot be read: %s\n", command, where, strerror(errno));
+    return whole;
+}
+
+static bool take_file(const char *command, const char *path, input_taker take, void *with)
+{
+    FILE *in = fopen(path, "rb");
+    if (in == NULL) {
+        fprintf(stderr, "heron-bench %s: %s: %s\n", command, path, strerror(errno));
+        return false;
+    }
+    bool whole = take_input(command, in, path, take, with);
+    fclose(in);
+    return whole;
+}
+
+bool take_inputs(const char *command, char **paths, int count, input_taker take, void *with)
+{
+    bool whole = true;
+    if (count == 0)
+        whole = take_input(command, stdin, "stdin", take, with);
+    for (int i = 0; i < count; i++)
+        whole = (strcmp(paths[i], "-") == 0 ? take_input(command, stdin, "stdin", take, with)
+                                            : take_file(command, paths[i], take, with)) && whole;
+    return whole;
+}
+
+/* ---- a stream */
+
+/* As much as there is, without waiting for a full piece: the count of bytes, 0 at the end, or -1 with errno. */
+static ssize_t next_piece(FILE *in, uint8_t *piece, size_t len)
+{
+    fflush(stdout);
+    ssize_t came;
+    do
+        came = read(fileno(in), piece, len);
+    while (came < 0 && errno == EINTR);
+    return came;
+}
+
+bool cut_stream(FILE *in, part_taker take, void *with)
+{
+    static uint8_t piece[65536];
+    uint8_t bytes[HERON_CUTTER_LEN];
+    heron_cutter cutter = {{0}, 0};
+    unsigned long long start = 0, len = 0; /* of the message at hand */
+    ssize_t came;
+    while ((came = next_piece(in, piece, sizeof piece)) > 0 && !ferror(stdout))
+        for (size_t at = 0; at < (size_t)came;) {
+            heron_cut cut = heron_cut_message(&cutter, piece + at, (size_t)came - at, bytes, sizeof bytes);
+            at += cut.used;
+            len += cut.used;
+            if (!cut.ended)
+                continue;
+            take(&(part){true, start, len, cut.number == HERON_DONE ? bytes : NULL}, with);
+            start += len;
+            len = 0;
+        }
+    if (came == 0 && len > 0)
+        take(&(part){false, start, len, cutter.len <= HERON_CUTTER_LEN ? cutter.bytes : NULL}, with);
+    return came >= 0;
+}
