@@ -261,8 +261,8 @@ heron_answer heron_read_packed(const uint8_t *message, size_t len, bool checksum
 
 /* An old line is a text record of old zoom firmware, HERON_OLD_LEN bytes with its LF CR: as a present one, but without S and
  * the serial, and with the zoom as z and x.xx, 0.00 to 1.00. Neither carries a checksum here. heron_read_text refuses every
- * old line by 3. A line of firmware 1.22 has S and x.xx together and is as long as a present one: plain it is refused by 6
- * with field 11.
+ * old line by 3. A line of firmware 1.22 has S and x.xx together and is as long as a present one: it is refused by 6 with
+ * field 11, and by heron_old_to_new by 3.
  *
  * heron_old_to_new writes an old line in the present form to the start of out; bytes past it stay as they were. The zoom's
  * hundredths times ten are its thousandths, and S and the serial are added. Done: value is HERON_TEXT_LEN. Refused, in this

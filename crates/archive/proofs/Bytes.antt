@@ -1,15 +1,16 @@
 -- Both lines byte by byte: fields 1 to 10 alike, then z and the digits of the thousandths, with a point in an old line and the last of them in a new one.
 -- Assumes nothing.
-use Prim.Native.Nat.{ℕ, _+_, _-_, _/_, _%_, _≤_}
+use Prim.Native.Nat.{ℕ, _+_, _/_, _%_, _≤_}
 use mathlib.Core.Bool.{false}
 use mathlib.Core.List.{List, [], _∷_, _++_, append-assoc}
 use mathlib.Core.Logic.{inl, inr}
 use mathlib.Core.Path.{_≡_, sym, ap, _∙_}
 use native.Mathlib.Omega.{arith}
-use lib.ListN.{length, take, drop, getD, length-append}
-use lib.Seq.{take-at, take-append-add, drop-append-add, getD-append-add, drop-drop, length-take-le}
+use lib.ListN.{length, take, drop, length-append}
+use lib.Seq.{take-at}
 use Rattle.laws.specs.Over.{over}
-use Rattle.laws.proofs.OverLaws.{over-fits}
+use Rattle.laws.proofs.ListLaws.{take-past, drop-past, at-past}
+use Rattle.laws.proofs.OverLaws.{over-front, drop-over}
 use Rattle.refusal.specs.Answer.{accepted}
 use Rattle.digits.specs.Digits.{digits}
 use Rattle.pupil.specs.Pupil.{minusText}
@@ -25,18 +26,6 @@ use Rattle.demand2.proofs.MinusZero.{text-zero}
 use Rattle.archive.specs.Old.{oldZoom, oldForm}
 use Rattle.archive.specs.Promises.{newBytes, oldBytes, serialIn}
 use Rattle.archive.proofs.Exact.{old-parts}
-use Rattle.archive.proofs.Zeros.{over-front}
-
--- past the first n bytes
-module _ (p l : List ℕ) (n k : ℕ) (long : length p ≡ n) where
-  take-past : take (n + k) (p ++ l) ≡ p ++ take k l
-  take-past = ap (λ (i : ℕ). take (i + k) (p ++ l)) (sym long) ∙ take-append-add p l k
-
-  drop-past : drop (n + k) (p ++ l) ≡ drop k l
-  drop-past = ap (λ (i : ℕ). drop (i + k) (p ++ l)) (sym long) ∙ drop-append-add p l k
-
-  at-past : getD (p ++ l) (n + k) 0 ≡ getD l k 0
-  at-past = ap (λ (i : ℕ). getD (p ++ l) (i + k) 0) (sym long) ∙ getD-append-add p l k 0
 
 module _ (f : Figures) where
   abbrev z : ℕ
@@ -96,16 +85,6 @@ module _ (f : Figures) where
         ap (λ (m : List ℕ). take 9 (drop 65 m)) new-is
         ∙ ap (take 9) (drop-past (tenText f) _ 59 6 (ten-long f))
         ∙ take-at s (10 ∷ 13 ∷ []) 9 l
-
--- what is written over bytes before them leaves those from n on
-drop-over : (d t : List ℕ) (a n : ℕ) → a + length t ≤ length d → a + length t ≤ n → drop n (over d a t) ≡ drop n d
-drop-over d t a n fits far =
-    let k = a + length t in
-    let p = take a d ++ t in
-    let long : length p ≡ k = length-append (take a d) t ∙ ap (λ (i : ℕ). i + length t) (length-take-le a d (omega arith)) in
-    let e : k + (n - k) ≡ n = omega arith in
-    ap (drop n) (over-fits d t a fits ∙ sym (append-assoc (take a d) t (drop k d)))
-    ∙ ap (λ (i : ℕ). drop i (p ++ drop k d)) (sym e) ∙ drop-past p (drop k d) k (n - k) long ∙ drop-drop (n - k) k d ∙ ap (λ (i : ℕ). drop i d) e
 
 -- also in a line with -000
 serial-minus : (r : Record) → length (r .serial) ≡ 9 → serialIn (framed false (over (textForm .print r) 54 minusText)) ≡ r .serial

@@ -31,7 +31,7 @@ use Rattle.record.proofs.Exact.{text-lowest, text-form-width}
 use Rattle.text_reader.specs.Reader.{withZoom}
 use Rattle.text_reader.proofs.Parts.{back-parts}
 use Rattle.archive.specs.Old.{byTen, oldZoom, oldForm, oldLength, oldLowest}
-use Rattle.archive.specs.Archive.{newLine, added, dropped, forward, back, Moves}
+use Rattle.archive.specs.Archive.{newLineLength, added, dropped, forward, back, Moves}
 use Rattle.archive.proofs.Exact.{zoom-width, old-exact, old-lowest}
 
 -- ---- the zoom
@@ -64,7 +64,7 @@ module _ (n : ℕ) (out : List ℕ) where
   moved line e p = record { answers = e; leaves = p }
 
   pub not-moved : (x : Refusal) → Moves n (refused x) out (wrote.Refused x) out
-  unfolding thenWrite thenLeft
+  unfolding thenLeft thenWrite
   not-moved x = record { answers = refl; leaves = refl }
 
   pub moves-by : {a b : Answer (List ℕ)} {w : Wrote} {after : List ℕ} → a ≡ b → Moves n b out w after → Moves n a out w after
@@ -117,7 +117,7 @@ module _ (f : Figures) (s out : List ℕ) (fits : figuresLowest topDistance topP
   unfolding recordLowest first
   serial-lowest = text-lowest (withSerial f s) ∙ rw fits
 
-  pub added-written : {w : Wrote} {after : List ℕ} → WritesMessage textForm Field false (withSerial f s) out w after → Moves newLine (added s f) out w after
+  pub added-written : {w : Wrote} {after : List ℕ} → WritesMessage textForm Field false (withSerial f s) out w after → Moves newLineLength (added s f) out w after
   unfolding writeOf leftBy thenWrite thenLeft checked added unless failing
   added-written p =
       told (textOk 9 s)

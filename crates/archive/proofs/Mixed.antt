@@ -2,6 +2,7 @@
 use Prim.Native.Nat.{ℕ, _+_}
 use mathlib.Core.Bool.{Bool, true, false}
 use mathlib.Core.List.{List}
+use mathlib.Core.Logic.{_≢_}
 use mathlib.Core.Path.{_≡_, refl, sym, ap, subst, _∙_}
 use native.Mathlib.Omega.{arith}
 use lib.ListN.{length, take, getD}
@@ -11,7 +12,7 @@ use Rattle.laws.proofs.MemberLaws.{the-only, in-map}
 use Rattle.refusal.specs.Answer.{refused}
 use Rattle.refusal.specs.declared.Refusal.the-variants.{Field, Length, Contents}
 use Rattle.digits.specs.Digits.{digits, readField}
-use Rattle.codec.specs.Codec.{Got, got, wrong, Codec, spellings, both, mapped, textOk, number, tagged, _⊗_}
+use Rattle.codec.specs.Codec.{Got, got, wrong, Codec, spellings, both, mapped, textOk, number, _⊗_}
 use Rattle.codec.proofs.Exact.{Exact, spelt-read, fine, first-zero, zero-first, number-exact, tagged-exact, ⊗-exact, iso-exact}
 use Rattle.codec.proofs.Blames.{field-wrong}
 use Rattle.codec.proofs.Fields.{wrong-first}
@@ -28,7 +29,7 @@ use Rattle.frame.proofs.Answers.{reads-on}
 use Rattle.frame.proofs.Faithful.{ending-by}
 use Rattle.frame.proofs.Refuses.{refuses}
 use Rattle.record.specs.Record.{recordLowest}
-use Rattle.record.specs.Forms.{frontText, middleText, viewText, backText, serial, groupsOf, recordOf, partsOf, textForm, textLength}
+use Rattle.record.specs.Forms.{frontText, middleText, viewText, zoomText, backText, serial, groupsOf, recordOf, partsOf, textForm, textLength}
 use Rattle.record.specs.Places.{textPlaces}
 use Rattle.record.specs.declared.Figures.{Figures}
 use Rattle.record.specs.declared.Record.{Record}
@@ -65,12 +66,9 @@ no-number s l p = by (number 11 10 48 4 1000 .parse s) refl where
       absurd (omega arith)
   by (wrong j) e = e ∙ ap wrong (field-wrong 11 (readField 10 48 1000 s) j e)
 
-abbrev newZoom : Codec ℕ
-newZoom = tagged 122 11 (number 11 10 48 4 1000)
-
-zoom-wrong : (z : ℕ) (s : List ℕ) → s ∈ spellings oldZoom z → newZoom .parse s ≡ wrong 11
+zoom-wrong : (z : ℕ) (s : List ℕ) → s ∈ spellings oldZoom z → zoomText .parse s ≡ wrong 11
 unfolding oldZoom digits
-zoom-wrong z s k = ap (newZoom .parse) (the-only k) ∙ no-number _ refl refl
+zoom-wrong z s k = ap (zoomText .parse) (the-only k) ∙ no-number _ refl refl
 
 -- what stands before it is read, and so it is the first wrong field
 wrong-behind : {A B C : Type 0} (c : Codec A) (d : Codec B) (e : Codec C) → Exact c → (a : A) (b : B) (s : List ℕ) (i : ℕ) → c .lowest a ≡ 0 →
@@ -97,8 +95,8 @@ groups-wrong f s h k =
     (λ t m.
     wrong-behind middleText oldBack backText (middle-text .exact) (p .1 .0) (p .1 .1) t 11 (l2 .0) m
     (λ u n.
-    wrong-behind viewText (pupilText ⊗ oldZoom) (pupilText ⊗ newZoom) view-exact (f .view) (f .pupil, f .zoom) u 11 (l3 .0) n
-    (λ v o. wrong-behind pupilText oldZoom newZoom (text-zeros .exact) (f .pupil) (f .zoom) v 11 (l4 .0) o (zoom-wrong (f .zoom)))))
+    wrong-behind viewText (pupilText ⊗ oldZoom) (pupilText ⊗ zoomText) view-exact (f .view) (f .pupil, f .zoom) u 11 (l3 .0) n
+    (λ v o. wrong-behind pupilText oldZoom zoomText (text-zeros .exact) (f .pupil) (f .zoom) v 11 (l4 .0) o (zoom-wrong (f .zoom)))))
 
 groups-width : (frontText ⊗ (middleText ⊗ backText)) .width ≡ oldLength
 unfolding frontText middleText backText stop pointed pupilText
@@ -128,6 +126,13 @@ mixed-lowest : (r : Record) → oldLowest (r .figures) ≡ 0 → textOk 9 (r .se
 unfolding form122 oldForm serial
 mixed-lowest r h k = zero-first _ _ (old-lowest (r .figures) ∙ h) (fine _ 12 k)
 
+-- the other setting asks for another length
+apart : (summed checksum : Bool) (n : ℕ) → summed ≢ checksum → n ≡ textLength + endingWidth summed → n ≡ textLength + endingWidth checksum → ⊥
+apart true true n d e k = d refl
+apart true false n d e k = omega arith
+apart false true n d e k = omega arith
+apart false false n d e k = d refl
+
 module _ (checksum : Bool) (m : List ℕ) (r : Record) (low : oldLowest (r .figures) ≡ 0) (ok : textOk 9 (r .serial) ≡ true) (k : m ∈ messagesOf form122 checksum r) where
   pub mixed-refused : readOf textForm checksum m ≡ refused (Contents 11)
   unfolding found
@@ -140,8 +145,16 @@ module _ (checksum : Bool) (m : List ℕ) (r : Record) (low : oldLowest (r .figu
       reads-on textForm textLength text-form-width checksum m o ∙ ap (λ (c : List ℕ). found (textForm .parse c)) t
       ∙ ap found (contents-wrong r s (old-lowest (r .figures) ∙ low) (q .1))
 
+  mixed-long : length m ≡ textLength + endingWidth checksum
+  mixed-long = messages-long form122 mixed-exact checksum m r (mixed-lowest r low ok) k ∙ ap (λ (n : ℕ). n + endingWidth checksum) mixed-width
+
   pub mixed-old : readOf oldForm false m ≡ refused (Length (length m))
   mixed-old =
-      let l = messages-long form122 mixed-exact checksum m r (mixed-lowest r low ok) k ∙ ap (λ (n : ℕ). n + endingWidth checksum) mixed-width in
       refuses oldForm oldLowest Field oldLength oldPlaces old-blames old-lowest old-width .read-when false m (Length (length m)) .1
-      (λ e. shorter false checksum (length m) e l, refl)
+      (λ e. shorter false checksum (length m) e mixed-long, refl)
+
+pub mixed-other : (summed checksum : Bool) (m : List ℕ) (r : Record) → oldLowest (r .figures) ≡ 0 → textOk 9 (r .serial) ≡ true → m ∈ messagesOf form122 summed r →
+    summed ≢ checksum → readOf textForm checksum m ≡ refused (Length (length m))
+mixed-other summed checksum m r low ok k d =
+    refuses textForm recordLowest Field textLength textPlaces text-form-blames text-lowest text-form-width .read-when checksum m (Length (length m)) .1
+    (λ e. apart summed checksum (length m) d (mixed-long summed m r low ok k) (e ∙ sym (ending-by textLength checksum)), refl)

@@ -1,27 +1,29 @@
 -- Request [6]'s sentences: each line that was moved was read, and what was read is written; so a line comes back as what was read of it is written again.
 -- Assumes nothing.
-use Prim.Native.Nat.{ℕ, _+_, _%_, _≤_, _<_}
+use Prim.Native.Nat.{ℕ, _+_, _%_}
 use mathlib.Core.Bool.{true, false}
 use mathlib.Core.List.{List}
-use mathlib.Core.Logic.{_↔_, _≢_, _⊎_, inl, inr}
+use mathlib.Core.Logic.{_↔_, _≢_, inl, inr}
 use mathlib.Core.Path.{_≡_, refl, sym, ap, _∙_}
-use borrow.Author.Tests.{eqb-true, eq-eqb, ne-eqb, leb-true, leb-false, le-leb, lt-leb}
-use lib.Dec.{leb}
+use borrow.Author.Tests.{eqb-true, eq-eqb, ne-eqb}
 use lib.ListN.{length}
 use Rattle.laws.proofs.Tests.{told, never}
-use Rattle.refusal.specs.Answer.{Answer, accepted, refused, unless}
+use Rattle.refusal.specs.Answer.{Answer, accepted, refused}
 use Rattle.refusal.specs.declared.Refusal.{Refusal}
-use Rattle.refusal.specs.declared.Refusal.the-variants.{Field, Room, Checksum}
+use Rattle.refusal.specs.declared.Refusal.the-variants.{Field, Checksum}
 use Rattle.codec.specs.Codec.{textOk, spellings}
 use Rattle.codec.proofs.Exact.{holds, fine, first-zero, zero-first}
 use Rattle.codec.proofs.Ranges.{row, rows}
 use Rattle.codec.proofs.Texts.{text-long}
 use Rattle.codec.specs.Ranges.{LowestBy}
-use Rattle.frame.specs.Message.{readOf, messageOf, roomFor, thenWrite}
+use Rattle.frame.specs.Message.{readOf, messageOf, thenWrite, wroteOf}
+use Rattle.frame.specs.declared.Wrote.{Wrote}
+use Rattle.frame.specs.declared.Wrote.the-variants as wrote
 use Rattle.frame.specs.Refuses.{ReadWhen}
 use Rattle.frame.proofs.Exactly.{exactly, reads-written, messages-long, framed-long}
-use Rattle.frame.proofs.Left.{then-same, then-bytes}
+use Rattle.frame.proofs.Left.{then-same, then-lays}
 use Rattle.frame.proofs.Refuses.{refuses}
+use Rattle.frame.proofs.Rooms.{then-accepted, accepted-then, then-refused, refused-then}
 use Rattle.record.specs.Record.{topDistance, topPupil, figuresLowest, recordLowest}
 use Rattle.record.specs.Forms.{textForm, textLength, withSerial}
 use Rattle.record.specs.Places.{textPlaces}
@@ -31,13 +33,13 @@ use Rattle.record.proofs.Exact.{text-form-blames, text-form-exact, text-form-wi
 use Rattle.record.proofs.Ranges.{figures-by-table}
 use Rattle.text_writer.proofs.Written.{record-long}
 use Rattle.archive.specs.Old.{byTen, oldForm, oldLength, oldLowest, oldPlaces}
-use Rattle.archive.specs.Archive.{oldLine, newLine, forward, back}
+use Rattle.archive.specs.Archive.{oldLineLength, newLineLength, forward, back, Moves}
 use Rattle.archive.specs.Promises.{OldLine, NewLine, oldRanges, Minus, withPlus, newBytes, oldBytes, serialIn, ForwardWhen, BackWhen, Laid, Promised}
 use Rattle.archive.proofs.Exact.{old-blames, old-exact, old-width, old-lowest, old-long}
 use Rattle.archive.proofs.Laws.{forward-refused, forward-read, back-refused, back-read, dropped-yes, dropped-no, added-yes, added-no, read-fits}
-use Rattle.archive.proofs.Zeros.{old-same, old-plus, old-other, new-same, new-plus, new-other}
+use Rattle.archive.proofs.Zeros.{old-zero, old-same, old-plus, old-other, new-same, new-plus, new-other}
 use Rattle.archive.proofs.Bytes.{bytes-new, bytes-old, serial-in}
-use Rattle.archive.proofs.Mixed.{old-refused, mixed-refused, mixed-old}
+use Rattle.archive.proofs.Mixed.{old-refused, mixed-refused, mixed-other, mixed-old}
 
 -- ---- the rules
 
@@ -78,7 +80,7 @@ accepted-is : {A : Type 0} {a b : A} → _≡_ {A = Answer A} (accepted a) (acce
 accepted-is e = cc
 
 -- an old line that was moved
-pub record Went (m s n : List ℕ) : Type 0 where
+record Went (m s n : List ℕ) : Type 0 where
   pub figures : Figures
   pub read : readOf oldForm false m ≡ accepted figures
   pub fits : figuresLowest topDistance topPupil figures ≡ 0
@@ -98,7 +100,7 @@ went m s n e = by (readOf oldForm false m) refl where
       (λ o. never (cc (sym (added-no f s o) ∙ k)))
 
 -- a new line that was moved
-pub record Came (m o : List ℕ) : Type 0 where
+record Came (m o : List ℕ) : Type 0 where
   pub contents : Record
   pub read : readOf textForm false m ≡ accepted contents
   pub fits : recordLowest contents ≡ 0
@@ -194,10 +196,10 @@ module _ (m o : List ℕ) (e : back m ≡ accepted o) where
 refused-is : {A : Type 0} {x y : Refusal} → _≡_ {A = Answer A} (refused x) (refused y) → x ≡ y
 refused-is e = cc
 
-old-when : (m : List ℕ) (x : Refusal) → (readOf oldForm false m ≡ refused x) ↔ ReadWhen oldLowest (spellings oldForm) oldPlaces oldLine false m x
+old-when : (m : List ℕ) (x : Refusal) → (readOf oldForm false m ≡ refused x) ↔ ReadWhen oldLowest (spellings oldForm) oldPlaces oldLineLength false m x
 old-when = refuses oldForm oldLowest Field oldLength oldPlaces old-blames old-lowest old-width .read-when false
 
-new-when : (m : List ℕ) (x : Refusal) → (readOf textForm false m ≡ refused x) ↔ ReadWhen recordLowest (spellings textForm) textPlaces newLine false m x
+new-when : (m : List ℕ) (x : Refusal) → (readOf textForm false m ≡ refused x) ↔ ReadWhen recordLowest (spellings textForm) textPlaces newLineLength false m x
 new-when = refuses textForm recordLowest Field textLength textPlaces text-form-blames text-lowest text-form-width .read-when false
 
 forward-refuses : (m s : List ℕ) (x : Refusal) → (forward m s ≡ refused x) ↔ ForwardWhen m s x
@@ -243,65 +245,44 @@ back-never-5 m e = by (back-refuses m Checksum .0 e) where
 
 -- ---- in lent memory
 
-module _ (n : ℕ) (out : List ℕ) where
-  room-yes : (l : List ℕ) → n ≤ length out → thenWrite n (accepted l) out ≡ accepted n
-  unfolding thenWrite roomFor unless
-  room-yes l h = rw (le-leb n (length out) h)
-
-  room-no : (l : List ℕ) → length out < n → thenWrite n (accepted l) out ≡ refused (Room n)
-  unfolding thenWrite roomFor unless
-  room-no l h = rw (lt-leb n (length out) h)
-
-  -- there is room, or there is not
-  with-room : {X : Type 0} → (n ≤ length out → X) → (length out < n → X) → X
-  with-room f g = told (leb n (length out)) (λ y. f (leb-true n (length out) y)) (λ k. g (leb-false n (length out) k))
-
-  -- refused as the line is, or for want of room
-  abbrev Either : Answer (List ℕ) → Refusal → Type 0
-  Either line x = (line ≡ refused x) ⊎ ((l : List ℕ) × (line ≡ accepted l) × (length out < n) × (x ≡ Room n))
-
-  write-refuses : (line : Answer (List ℕ)) (x : Refusal) → (thenWrite n line out ≡ refused x) ↔ Either line x
-  unfolding thenWrite
-  write-refuses (refused y) x = (λ e. inl (ap refused (refused-is e)), by) where
-    by : Either (refused y) x → _≡_ {A = Answer ℕ} (refused y) (refused x)
-    by (inl k) = ap refused (refused-is k)
-    by (inr (l, k, h, q)) = never (cc k)
-  write-refuses (accepted l) x = (
-    λ e. with-room (λ h. never (cc (sym (room-yes l h) ∙ e))) (λ h. inr (l, refl, h, refused-is (sym e ∙ room-no l h))),
-    by,
-  ) where
-    by : Either (accepted l) x → thenWrite n (accepted l) out ≡ refused x
-    by (inl k) = never (cc k)
-    by (inr (_, k, h, q)) = room-no l h ∙ ap refused (sym q)
-
-  write-does : (line : Answer (List ℕ)) (k : ℕ) → (thenWrite n line out ≡ accepted k) ↔ ((l : List ℕ) × (line ≡ accepted l) × (n ≤ length out) × (k ≡ n))
-  unfolding thenWrite
-  write-does (refused y) k = (λ e. never (cc e), λ h. never (cc (h .1)))
-  write-does (accepted l) k = (
-    λ e. with-room (λ h. (l, refl, h, accepted-is (sym e ∙ room-yes l h))) (λ h. never (cc (sym (room-no l h) ∙ e))),
-    λ h. room-yes l (h .2) ∙ ap accepted (sym (h .3)),
-  )
-
-  laid : (line : Answer (List ℕ)) → ((l : List ℕ) → line ≡ accepted l → length l ≡ n) → Laid n line out
-  laid line long = record {
-    refuses = write-refuses line;
-    does = write-does line;
-    refused-same = λ x e. then-same (λ l. l) n out line x long e;
-    lays = λ l k h. (long l k, rw k (then-bytes (λ l. l) n out l n (long l k) (room-yes l h) .1));
-  }
-
 -- each line has its length
-new-line : (m s l : List ℕ) → forward m s ≡ accepted l → length l ≡ newLine
-new-line m s l e =
+forward-long : (m s l : List ℕ) → forward m s ≡ accepted l → length l ≡ newLineLength
+forward-long m s l e =
     let v = went m s l e in
     let made = withSerial (v .figures) s in
     ap length (v .line) ∙ framed-long false textLength (textForm .print made) (record-long made (text-long 9 s (v .text)))
 
-old-line : (m l : List ℕ) → back m ≡ accepted l → length l ≡ oldLine
-old-line m l e =
+back-long : (m l : List ℕ) → back m ≡ accepted l → length l ≡ oldLineLength
+back-long m l e =
     let v = came m l e in
     let figures = v .contents .figures in
     ap length (v .line) ∙ framed-long false oldLength (oldForm .print figures) (old-long figures)
+
+-- what the code answers tells the answer
+count-is : (a : Answer ℕ) (k : ℕ) → wroteOf a ≡ wrote.Count k → a ≡ accepted k
+count-is (accepted n) k e = cc
+count-is (refused x) k e = never (cc)
+
+no-count : (a : Answer ℕ) (x : Refusal) → wroteOf a ≡ wrote.Refused x → a ≡ refused x
+no-count (accepted n) x e = never (cc)
+no-count (refused y) x e = cc
+
+laid : (n : ℕ) (line : Answer (List ℕ)) (out : List ℕ) {w : Wrote} {after : List ℕ} → ((l : List ℕ) → line ≡ accepted l → length l ≡ n) → Moves n line out w after →
+    Laid n line out w after
+laid n line out long call =
+    let answer = thenWrite n line out in
+    record {
+      refuses = λ x. (
+        λ e. then-refused n line out x (no-count answer x (sym (call .answers) ∙ e)),
+        λ h. call .answers ∙ ap wroteOf (refused-then n line out x h),
+      );
+      does = λ k. (
+        λ e. then-accepted n line out k (count-is answer k (sym (call .answers) ∙ e)),
+        λ h. call .answers ∙ ap wroteOf (accepted-then n line out k h),
+      );
+      refused-same = λ x e. call .leaves ∙ then-same (λ l. l) n out line x long (no-count answer x (sym (call .answers) ∙ e));
+      lays = λ l k q e. call .leaves ∙ then-lays (λ l. l) n out line l k q (long l q) (count-is answer k (sym (call .answers) ∙ e));
+    }
 
 -- ---- all of it
 
@@ -310,6 +291,7 @@ promised = record {
   old-rule = old-rule;
   old-exactly = old-exactly;
   old-long = λ m f k. messages-long oldForm old-exact false m f (old-lowest f ∙ k .0) (k .1) ∙ ap (λ (n : ℕ). n + 2) old-width;
+  old-zero = old-zero;
   forward-bytes = forward-bytes;
   forward-bytes-plus = forward-bytes-plus;
   forward-reads = λ m s n f k e. forward-reads m s n e f k;
@@ -322,11 +304,14 @@ promised = record {
   back-forward-plus = back-forward-plus;
   old-refused = old-refused;
   mixed-refused = mixed-refused;
+  mixed-other = mixed-other;
   mixed-forward = λ checksum m s r h k e. forward-refused m s (mixed-old checksum m r h k e);
   forward-refuses = forward-refuses;
   back-refuses = back-refuses;
   forward-never-5 = forward-never-5;
   back-never-5 = back-never-5;
-  forward-laid = λ m s out. laid newLine out (forward m s) (new-line m s);
-  back-laid = λ m out. laid oldLine out (back m) (old-line m);
+  forward-long = forward-long;
+  back-long = back-long;
+  forward-laid = λ m s out w after. laid newLineLength (forward m s) out (forward-long m s);
+  back-laid = λ m out w after. laid oldLineLength (back m) out (back-long m);
 }

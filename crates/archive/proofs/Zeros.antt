@@ -1,15 +1,15 @@
 -- Minus zero in an old line and in a new one: what was read, written again, is the same line, or has +000 where it had -000. Assumes nothing.
 use Prim.Native.Nat.{ℕ, _+_, _≤_}
 use mathlib.Core.Bool.{false}
-use mathlib.Core.List.{List, [], _∷_, _++_, append-assoc}
+use mathlib.Core.List.{List, [], _∷_}
 use mathlib.Core.Logic.{_≢_}
-use mathlib.Core.Path.{_≡_, refl, sym, ap, ap₂, _∙_}
+use mathlib.Core.Path.{_≡_, refl, sym, ap, _∙_}
 use native.Mathlib.Omega.{arith}
 use lib.ListN.{length, take, drop, getD, length-append}
-use lib.Seq.{take-at, drop-at, take-append-le, drop-append-le, length-take-le}
+use lib.Seq.{take-at, drop-at, length-take-le}
 use Rattle.laws.specs.Over.{over}
 use Rattle.laws.proofs.MemberLaws.{in-map}
-use Rattle.laws.proofs.OverLaws.{over-fits}
+use Rattle.laws.proofs.OverLaws.{over-fits, over-front}
 use Rattle.refusal.specs.Answer.{accepted}
 use Rattle.codec.specs.Codec.{Codec, failing, first, spellings}
 use Rattle.codec.specs.Places.{Place, fieldOf}
@@ -60,16 +60,6 @@ differ e = let k : _≡_ {A = ℕ} 43 45 = ap (λ (s : List ℕ). getD s 1 0) e 
 pub old-zero : MinusZero oldForm oldLowest (λ f. f .pupil) oldPlaces 54 plusText minusText
 old-zero = minus-zero oldForm oldLowest (λ f. f .pupil) pupilText oldPlaces oldLength 54 plusText minusText old-blames old-width old-lowest text-zeros old-at differ
 
--- written over the front of two parts
-pub over-front : (b e t : List ℕ) (a : ℕ) → a + length t ≤ length b → over (b ++ e) a t ≡ over b a t ++ e
-over-front b e t a h =
-    let x = take a b in
-    let y = drop (a + length t) b in
-    over-fits (b ++ e) t a (omega (arith, length-append b e))
-    ∙ ap₂ (λ (u v : List ℕ). u ++ (t ++ v)) (take-append-le a b e (omega arith)) (drop-append-le (a + length t) b e h)
-    ∙ sym (append-assoc x (t ++ y) e ∙ ap (λ (v : List ℕ). x ++ v) (append-assoc t y e))
-    ∙ ap (λ (u : List ℕ). u ++ e) (sym (over-fits b t a h))
-
 module _ {A : Type 0} (form : Codec A) (exact : Exact form) (w : ℕ) (wide : form .width ≡ w) (enough : 59 ≤ w) (m : List ℕ) (a : A) (e : readOf form false m ≡ accepted a) where
   -- a line that was read: its contents, and LF CR
   in-two : (m ≡ framed false (take w m)) × (length (take w m) ≡ w)
@@ -86,7 +76,7 @@ module _ {A : Type 0} (form : Codec A) (exact : Exact form) (w : ℕ) (wide : fo
       sym (ap (λ (l : List ℕ). over l 54 plusText) (in-two .0) ∙ over-front (take w m) (10 ∷ 13 ∷ []) plusText 54 (omega (arith, in-two .1)))
 
   -- with +000 it is another line
-  pub plus-other : Minus m → withPlus m ≢ m
+  plus-other : Minus m → withPlus m ≢ m
   unfolding ending
   plus-other h k =
       let l : length m ≡ w + 2 = ap length (in-two .0) ∙ length-append (take w m) (10 ∷ 13 ∷ []) ∙ ap (λ (n : ℕ). n + 2) (in-two .1) in

@@ -13,11 +13,11 @@ use Rattle.record.specs.declared.Figures.{Figures}
 use Rattle.archive.specs.Old.{byTen, oldForm}
 
 -- how many bytes an old and a new line have, LF CR included
-abbrev pub oldLine : ℕ
-oldLine = 66
+abbrev pub oldLineLength : ℕ
+oldLineLength = 66
 
-abbrev pub newLine : ℕ
-newLine = 76
+abbrev pub newLineLength : ℕ
+newLineLength = 76
 
 -- "adds S": the new line of fields 1 to 11 and a serial; 1 for the serial
 unfoldable pub added : List ℕ → Figures → Answer (List ℕ)

@@ -2,10 +2,10 @@
 use Prim.Native.Nat.{ℕ}
 use mathlib.Core.List.{List}
 use Rattle.frame.specs.declared.Wrote.{Wrote}
-use Rattle.archive.specs.Archive.{oldLine, newLine, forward, back, Moves}
+use Rattle.archive.specs.Archive.{oldLineLength, newLineLength, forward, back, Moves}
 
 abbrev pub OldToNew : List ℕ → List ℕ → List ℕ → Wrote → List ℕ → Type 0
-OldToNew m serial out w after = Moves newLine (forward m serial) out w after
+OldToNew m serial out w after = Moves newLineLength (forward m serial) out w after
 
 abbrev pub NewToOld : List ℕ → List ℕ → Wrote → List ℕ → Type 0
-NewToOld m out w after = Moves oldLine (back m) out w after
+NewToOld m out w after = Moves oldLineLength (back m) out w after

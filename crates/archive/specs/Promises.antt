@@ -12,8 +12,10 @@ use Rattle.refusal.specs.declared.Refusal.{Refusal}
 use Rattle.refusal.specs.declared.Refusal.the-variants.{Field, Room, Length, Checksum, Contents, Lost}
 use Rattle.codec.specs.Codec.{textOk, spellings}
 use Rattle.codec.specs.Ranges.{Ranges, LowestBy}
-use Rattle.frame.specs.Message.{readOf, messagesOf, thenWrite, thenLeft}
+use Rattle.frame.specs.Message.{readOf, messagesOf}
 use Rattle.frame.specs.Refuses.{ReadWhen}
+use Rattle.frame.specs.declared.Wrote.{Wrote}
+use Rattle.frame.specs.declared.Wrote.the-variants as wrote
 use Rattle.pupil.specs.Pupil.{plusText, minusText}
 use Rattle.record.specs.Record.{recordLowest}
 use Rattle.record.specs.Forms.{textForm, withSerial}
@@ -21,8 +23,10 @@ use Rattle.record.specs.Places.{textPlaces}
 use Rattle.record.specs.Ranges.{figuresRanges}
 use Rattle.record.specs.declared.Figures.{Figures}
 use Rattle.record.specs.declared.Record.{Record}
+use Rattle.demand2.specs.MinusZero.{MinusZero}
 use Rattle.archive.specs.Old.{byTen, oldForm, oldLowest, oldPlaces, form122}
-use Rattle.archive.specs.Archive.{oldLine, newLine, forward, back}
+use Rattle.archive.specs.Archive.{oldLineLength, newLineLength, forward, back}
+use Rattle.archive.specs.Contracts.{OldToNew, NewToOld}
 
 -- ---- the two lines
 
@@ -60,22 +64,22 @@ serialIn m = take 9 (drop 65 m)
 
 abbrev pub ForwardWhen : List ℕ → List ℕ → Refusal → Type 0
 ForwardWhen m s x =
-    ReadWhen oldLowest (spellings oldForm) oldPlaces oldLine false m x ⊎ ((f : Figures) × OldLine f m × (textOk 9 s ≡ false) × (x ≡ Field 12))
+    ReadWhen oldLowest (spellings oldForm) oldPlaces oldLineLength false m x ⊎ ((f : Figures) × OldLine f m × (textOk 9 s ≡ false) × (x ≡ Field 12))
 
 abbrev pub BackWhen : List ℕ → Refusal → Type 0
 BackWhen m x =
-    ReadWhen recordLowest (spellings textForm) textPlaces newLine false m x ⊎ ((r : Record) × NewLine r m × (r .figures .zoom % 10 ≢ 0) × (x ≡ Lost))
+    ReadWhen recordLowest (spellings textForm) textPlaces newLineLength false m x ⊎ ((r : Record) × NewLine r m × (r .figures .zoom % 10 ≢ 0) × (x ≡ Lost))
 
--- how a line of n bytes goes into lent memory
-pub record Laid (n : ℕ) (line : Answer (List ℕ)) (out : List ℕ) : Type 0 where
-  -- refused as the line is; 2 only then, and with n
-  pub refuses : (x : Refusal) → (thenWrite n line out ≡ refused x) ↔ ((line ≡ refused x) ⊎ ((l : List ℕ) × (line ≡ accepted l) × (length out < n) × (x ≡ Room n)))
+-- what a call says that answers w and leaves after, of a line of n bytes and of lent memory
+pub record Laid (n : ℕ) (line : Answer (List ℕ)) (out : List ℕ) (w : Wrote) (after : List ℕ) : Type 0 where
+  -- refused as the line is; 2, with n, only where it is not
+  pub refuses : (x : Refusal) → (w ≡ wrote.Refused x) ↔ ((line ≡ refused x) ⊎ ((x ≡ Room n) × (length out < n) × ((l : List ℕ) × (line ≡ accepted l))))
   -- done exactly where there is a line and room for it: the count is n
-  pub does : (k : ℕ) → (thenWrite n line out ≡ accepted k) ↔ ((l : List ℕ) × (line ≡ accepted l) × (n ≤ length out) × (k ≡ n))
+  pub does : (k : ℕ) → (w ≡ wrote.Count k) ↔ ((l : List ℕ) × (line ≡ accepted l) × (n ≤ length out) × (k ≡ n))
   -- a refusal writes nothing
-  pub refused-same : (x : Refusal) → thenWrite n line out ≡ refused x → thenLeft (λ l. l) line out ≡ out
+  pub refused-same : (x : Refusal) → w ≡ wrote.Refused x → after ≡ out
   -- done, the line stands at the start, and the bytes past it are unchanged
-  pub lays : (l : List ℕ) → line ≡ accepted l → n ≤ length out → (length l ≡ n) × (thenLeft (λ l. l) line out ≡ l ++ drop n out)
+  pub lays : (l : List ℕ) (k : ℕ) → line ≡ accepted l → w ≡ wrote.Count k → after ≡ l ++ drop n out
 
 -- ---- all of it
 
@@ -83,7 +87,9 @@ pub record Promised : Type 0 where
   -- "Old D lines": what is moved forward is exactly such a line
   pub old-rule : LowestBy oldLowest oldRanges
   pub old-exactly : (m : List ℕ) (f : Figures) → (readOf oldForm false m ≡ accepted f) ↔ OldLine f m
-  pub old-long : (m : List ℕ) (f : Figures) → OldLine f m → length m ≡ oldLine
+  pub old-long : (m : List ℕ) (f : Figures) → OldLine f m → length m ≡ oldLineLength
+  -- "`-000` is read as [5] says": as 0 in an old line too, and comes out as +000
+  pub old-zero : MinusZero oldForm oldLowest (λ f. f .pupil) oldPlaces 54 plusText minusText
   -- "Forward multiplies the zoom hundredths by ten and adds S", and all else is as it was
   pub forward-bytes : (m s n : List ℕ) → forward m s ≡ accepted n → (Minus m → ⊥) → n ≡ newBytes m s
   pub forward-bytes-plus : (m s n : List ℕ) → forward m s ≡ accepted n → Minus m → n ≡ newBytes (withPlus m) s
@@ -102,9 +108,11 @@ pub record Promised : Type 0 where
   -- "The D reader must answer an old line by refusal, never by a wrong record": under either setting, whether or not the line has a checksum
   pub old-refused : (summed checksum : Bool) (m : List ℕ) (f : Figures) → oldLowest f ≡ 0 → m ∈ messagesOf oldForm summed f →
       readOf textForm checksum m ≡ refused (Length (length m))
-  -- a line of firmware 1.22, with S and x.xx together: 6 with field 11 for the D reader, and so for back; 3 for forward
+  -- a line of firmware 1.22, with S and x.xx together: 6 with field 11 for the D reader, and so for back, 3 under the other setting; 3 for forward
   pub mixed-refused : (checksum : Bool) (m : List ℕ) (r : Record) → oldLowest (r .figures) ≡ 0 → textOk 9 (r .serial) ≡ true → m ∈ messagesOf form122 checksum r →
       readOf textForm checksum m ≡ refused (Contents 11)
+  pub mixed-other : (summed checksum : Bool) (m : List ℕ) (r : Record) → oldLowest (r .figures) ≡ 0 → textOk 9 (r .serial) ≡ true → m ∈ messagesOf form122 summed r →
+      summed ≢ checksum → readOf textForm checksum m ≡ refused (Length (length m))
   pub mixed-forward : (checksum : Bool) (m s : List ℕ) (r : Record) → oldLowest (r .figures) ≡ 0 → textOk 9 (r .serial) ≡ true → m ∈ messagesOf form122 checksum r →
       forward m s ≡ refused (Length (length m))
   -- the refusals in their order, each exactly in its case; 5 is none of them
@@ -113,5 +121,7 @@ pub record Promised : Type 0 where
   pub forward-never-5 : (m s : List ℕ) → forward m s ≢ refused Checksum
   pub back-never-5 : (m : List ℕ) → back m ≢ refused Checksum
   -- then 2, with 76 and with 66; and what is left in lent memory
-  pub forward-laid : (m s out : List ℕ) → Laid newLine (forward m s) out
-  pub back-laid : (m out : List ℕ) → Laid oldLine (back m) out
+  pub forward-long : (m s n : List ℕ) → forward m s ≡ accepted n → length n ≡ newLineLength
+  pub back-long : (m o : List ℕ) → back m ≡ accepted o → length o ≡ oldLineLength
+  pub forward-laid : (m s out : List ℕ) (w : Wrote) (after : List ℕ) → OldToNew m s out w after → Laid newLineLength (forward m s) out w after
+  pub back-laid : (m out : List ℕ) (w : Wrote) (after : List ℕ) → NewToOld m out w after → Laid oldLineLength (back m) out w after

@@ -11,15 +11,15 @@ ghost use mathlib.Core.Path.{_≡_};
 ghost use Prim.Native.Nat.{_≤_};
 ghost use lib.ListN.{length};
 ghost use Rattle.laws.specs.Over.{over};
-ghost use Rattle.codec.specs.Codec.{fieldSays, parsed};
+ghost use Rattle.codec.specs.Codec.{fieldSays};
 ghost use Rattle.record.specs.Forms.{tenLength};
 ghost use Rattle.gather.specs.Gather.{elevenSays};
 ghost use Rattle.archive.specs.Old.{oldZoom, oldForm, oldLength};
-ghost use Rattle.archive.specs.Archive.{oldLine, dropped, Moves};
+ghost use Rattle.archive.specs.Archive.{oldLineLength, dropped, Moves};
 ghost use Rattle.archive.specs.Contracts.{OldToNew, NewToOld};
 
 // How many bytes the contents of an old line take.
-pub const OLD_LENGTH: usize = 64;
+const OLD_LENGTH: usize = 64;
 
 // Reads z and x.xx: hundredths, as ten times as many thousandths.
 fn read_zoom(s: &[u8]) -> Field
@@ -64,7 +64,7 @@ fn put_zoom(out: &mut [u8], thousandths: u32)
 
 // Writes an old line: 11 where the thousandths do not divide by ten, then 2.
 fn write_old(f: Figures, out: &mut [u8]) -> Wrote
-    ensures { λ w. ⌜ Moves oldLine (dropped f) (now (out .entry)) w (now (out .exit)) ⌝ }
+    ensures { λ w. ⌜ Moves oldLineLength (dropped f) (now (out .entry)) w (now (out .exit)) ⌝ }
 {
     if f.zoom % 10 != 0 {
         return Wrote::Refused(Refusal::Lost);

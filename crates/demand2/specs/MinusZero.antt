@@ -24,7 +24,7 @@ Message form pupilOf at minus checksum r m =
 pub record MinusZero {A : Type 0} (form : Codec A) (rule : A → ℕ) (pupilOf : A → ℤ) (places : List Place) (at : ℕ) (plus minus : List ℕ) : Type 0 where
   -- "From now on readers accept the writers' messages and these two spellings", one in each form
   pub accepts : (checksum : Bool) (m : List ℕ) (r : A) → (readOf form checksum m ≡ accepted r) ↔ ((rule r ≡ 0) × Message form pupilOf at minus checksum r m)
-  -- these are the spellings of a record by which 'accepts exactly' is said of every codec
+  -- these are the spellings of the contents by which 'accepts exactly' is said of every codec
   pub spelt : (r : A) → spellings form r ≡ form .print r ∷ zeroToo (over (form .print r) at minus) (pupilOf r)
   -- "The readers must take both as 0", and as nothing else
   pub reads-zero : (checksum : Bool) (m : List ℕ) (r : A) → readOf form checksum m ≡ accepted r → fieldOf places 10 m ≡ minus → pupilOf r ≡ pos 0

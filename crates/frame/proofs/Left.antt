@@ -41,6 +41,12 @@ module _ {A : Type 0} (bytes : A → List ℕ) (n : ℕ) (out : List ℕ) where
       ))
       (λ short. never (cc (rw short at e)))
 
+  -- the same of an answer that was accepted
+  pub then-lays : (answer : Answer A) (a : A) (k : ℕ) → answer ≡ accepted a → length (bytes a) ≡ n → thenWrite n answer out ≡ accepted k → thenLeft bytes answer out ≡ bytes a ++ drop n out
+  then-lays answer a k q long e =
+      let b = then-bytes a k long (ap (λ (x : Answer A). thenWrite n x out) (sym q) ∙ e) in
+      ap (λ (x : Answer A). thenLeft bytes x out) q ∙ b .1 ∙ ap (λ (i : ℕ). bytes a ++ drop i out) (b .0 ∙ long)
+
 module _ {A : Type 0} (c : Codec A) (long : (a : A) → c .lowest a ≡ 0 → length (c .print a) ≡ c .width) (low : ℕ → Refusal) (checksum : Bool) (a : A) (out : List ℕ) where
   -- contents that may be sent are accepted as they are
   checked-is : (b : A) → checked c low a ≡ accepted b → (c .lowest b ≡ 0) × (a ≡ b)

@@ -3,5 +3,6 @@ pub mod Answers
 pub mod Left
 pub mod Faithful
 pub mod Refuses
+pub mod Rooms
 pub mod Stands
 pub mod Unique

@@ -3,7 +3,6 @@ pub mod Answers
 pub mod Cuts
 pub mod Takes
 pub mod Tells
-pub mod Rooms
 pub mod Stream
 pub mod Recording
 pub mod Promises

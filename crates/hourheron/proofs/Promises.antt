@@ -14,16 +14,16 @@ use Rattle.refusal.specs.declared.Refusal.the-variants.{Room}
 use Rattle.codec.specs.Codec.{Codec, spellings}
 use Rattle.codec.specs.Places.{Place}
 use Rattle.frame.specs.Faithful.{Faithful}
-use Rattle.frame.specs.Message.{readOf, messageOf, messagesOf, thenWrite, thenLeft, writeOf}
+use Rattle.frame.specs.Message.{readOf, messageOf, messagesOf, thenWrite, writeOf}
 use Rattle.frame.specs.Refuses.{ReadWhen, Refuses}
-use Rattle.frame.proofs.Left.{then-same, then-bytes}
+use Rattle.frame.proofs.Left.{then-same, then-bytes, then-lays}
+use Rattle.frame.proofs.Rooms.{then-accepted, accepted-then, then-refused, refused-then, room-enough}
 use Rattle.fixed.specs.Fixed.{fixedLowest}
 use Rattle.fixed.specs.Form.{fixedForm}
 use Rattle.fixed.specs.declared.Fixed.{Fixed}
 use Rattle.units.specs.Units.{Converts, conversion}
 use Rattle.demand2.proofs.Proved.{demand2}
-use Rattle.archive.specs.Archive.{oldLine, newLine, forward, back}
-use Rattle.archive.specs.Promises.{Laid}
+use Rattle.archive.specs.Archive.{oldLineLength, newLineLength, forward, back}
 use Rattle.archive.proofs.Promises.{promised as archive}
 use Rattle.cut_reader.proofs.Promises.{promised as cut}
 use Rattle.layout.specs.Promises.{Unpacks}
@@ -32,7 +32,6 @@ use Rattle.hourheron.specs.Host.{answerOf, conversionOf, Writes, Lays, a
 use Rattle.hourheron.specs.Promises.{Reads, Written, Moved, Converted, Asked, Promised}
 use Rattle.hourheron.specs.declared.Answer as host
 use Rattle.hourheron.specs.declared.Conversion.{Conversion}
-use Rattle.hourheron.proofs.Rooms.{then-accepted, then-refused, room-enough, room-short}
 use Rattle.hourheron.proofs.Recording.{sends, takes}
 use Rattle.hourheron.proofs.Stream.{cut-reader, hands-message}
 use Rattle.hourheron.proofs.Tells.{answers, conversions, was-done, was-refused, no-refusal, done-with, refused-with, tells}
@@ -54,12 +53,9 @@ module _ {A : Type 0} (form : Codec A) (rule : A → ℕ) (low : ℕ → Refusal
     done z =
         let w = was-done answers r (thenWrite width read out) (call .answers) z in
         let q = then-accepted width read out (w .0) (w .1) in
-        let p = faithful .exactly checksum m (q .0) .0 (q .1) in
-        let l = lies .long (q .0) (p .0) in
-        let b = then-bytes bytes width out (q .0) (w .0) l (ap (λ (x : Answer A). thenWrite width x out) (sym (q .1)) ∙ w .1) in
-        let n = b .0 ∙ l in (
-          ap (λ (x : host.Answer). x .value) (call .answers ∙ ap answerOf (w .1)) ∙ n,
-          (q .0, p .0, p .1, call .leaves ∙ ap (λ (x : Answer A). thenLeft bytes x out) (q .1) ∙ b .1 ∙ ap (λ (k : ℕ). bytes (q .0) ++ drop k out) n),
+        let p = faithful .exactly checksum m (q .0) .0 (q .1) in (
+          ap (λ (x : host.Answer). x .value) (call .answers ∙ ap answerOf (w .1)) ∙ q .3,
+          (q .0, p .0, p .1, call .leaves ∙ then-lays bytes width out read (q .0) (w .0) (q .1) (lies .long (q .0) (p .0)) (w .1)),
         )
 
     fits : (a : A) → rule a ≡ 0 → width ≤ length out → m ∈ messagesOf form checksum a → (r .number ≡ 0) × (after ≡ bytes a ++ drop width out)
@@ -88,10 +84,8 @@ module _ {A : Type 0} (form : Codec A) (rule : A → ℕ) (low : ℕ → Refusal
       by (inr (k, h, (a, q))) = let p = faithful .exactly checksum m a .0 q in inr (k, h, (a, p .0, p .1))
 
     of-case : (x : Refusal) → Case x → thenWrite width read out ≡ refused x
-    unfolding thenWrite
-    of-case x (inl w) = ap (λ (q : Answer A). thenWrite width q out) (exact .read-when checksum m x .1 w)
-    of-case x (inr (k, h, (a, z, e))) =
-        ap (λ (q : Answer A). thenWrite width q out) (faithful .exactly checksum m a .1 (z, e)) ∙ room-short width (length out) h ∙ ap refused (sym k)
+    of-case x (inl w) = refused-then width read out x (inl (exact .read-when checksum m x .1 w))
+    of-case x (inr (k, h, (a, z, e))) = refused-then width read out x (inr (k, h, (a, faithful .exactly checksum m a .1 (z, e))))
 
     kept : (r .number ≡ 0 → ⊥) → after ≡ out
     kept not =
@@ -131,15 +125,20 @@ module _ {A : Type 0} (form : Codec A) (rule : A → ℕ) (low : ℕ → Refusal
 
 -- ---- old lines
 
-moved : (n : ℕ) (line : Answer (List ℕ)) (out : List ℕ) → Laid n line out → (r : host.Answer) (after : List ℕ) → Lays (λ l. l) n line out r after → Moved n line out r after
-moved n line out goes r after call = record {
-  done = λ k. Iff·trans (done-with answers r (thenWrite n line out) (call .answers) k) (goes .does k);
-  lays = λ l e z.
-      let w = was-done answers r (thenWrite n line out) (call .answers) z in
-      call .leaves ∙ goes .lays l e (goes .does (w .0) .0 (w .1) .2) .1;
-  refuses = λ x. Iff·trans (refused-with answers r (thenWrite n line out) (call .answers) x) (goes .refuses x);
-  refused-same = λ not. let w = was-refused answers r (thenWrite n line out) (call .answers) not in call .leaves ∙ goes .refused-same (w .0) (w .1);
-}
+moved : (n : ℕ) (line : Answer (List ℕ)) (out : List ℕ) → ((l : List ℕ) → line ≡ accepted l → length l ≡ n) → (r : host.Answer) (after : List ℕ) → Lays (λ l. l) n line out r after →
+    Moved n line out r after
+moved n line out long r after call =
+    let answer = thenWrite n line out in
+    record {
+      done = λ k. Iff·trans (done-with answers r answer (call .answers) k) (then-accepted n line out k, accepted-then n line out k);
+      lays = λ l e z.
+          let w = was-done answers r answer (call .answers) z in
+          call .leaves ∙ then-lays (λ l. l) n out line l (w .0) e (long l e) (w .1);
+      refuses = λ x. Iff·trans (refused-with answers r answer (call .answers) x) (then-refused n line out x, refused-then n line out x);
+      refused-same = λ not.
+          let w = was-refused answers r answer (call .answers) not in
+          call .leaves ∙ then-same (λ l. l) n out line (w .0) long (w .1);
+    }
 
 -- ---- the conversion
 
@@ -210,8 +209,8 @@ promised = record {
   write-text = writes _ _ _ _ _ (demand2 .text) (demand2 .text-refuses);
   write-packed = writes _ _ _ _ _ (demand2 .packed) (demand2 .packed-refuses);
   write-fixed = writes _ _ _ _ _ (demand2 .fixed) (demand2 .fixed-refuses);
-  old-to-new = λ m s out. moved newLine (forward m s) out (archive .forward-laid m s out);
-  new-to-old = λ m out. moved oldLine (back m) out (archive .back-laid m out);
+  old-to-new = λ m s out. moved newLineLength (forward m s) out (archive .forward-long m s);
+  new-to-old = λ m out. moved oldLineLength (back m) out (archive .back-long m);
   convert = converts;
   checksum = λ s r e. (ap (λ (x : host.Answer). x .number) e, ap (λ (x : host.Answer). x .value) e);
   owner-start = asks _;

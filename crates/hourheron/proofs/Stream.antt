@@ -19,6 +19,7 @@ use Rattle.frame.specs.Faithful.{Faithful}
 use Rattle.frame.specs.Message.{readOf, thenWrite, thenLeft}
 use Rattle.frame.specs.Refuses.{Refuses}
 use Rattle.frame.proofs.Left.{then-same, then-bytes}
+use Rattle.frame.proofs.Rooms.{then-refused, room-enough, room-short}
 use Rattle.cutter.specs.Cutter.{cutterLength, Said, invalid, nothing, ended, cutOf, answerBy, leftBySaid, hasEnded, thenRead, wholeIn, wholeLeft}
 use Rattle.cutter.specs.declared.Cutter.{Cutter}
 use Rattle.cutter.proofs.Promises.{promised as cuts}
@@ -30,7 +31,6 @@ use Rattle.hourheron.specs.Cuts.{Cuts, CutsRead}
 use Rattle.hourheron.specs.Stream.{OfPiece, answerIn, CutCall, ReadsCut, HandsMessage}
 use Rattle.hourheron.specs.declared.Answer as host
 use Rattle.hourheron.specs.declared.CutValue.{CutValue}
-use Rattle.hourheron.proofs.Rooms.{then-refused, room-enough, room-short}
 use Rattle.hourheron.proofs.Tells.{answers, was-refused}
 
 -- ---- the numbers that a refusal has alone, and 2

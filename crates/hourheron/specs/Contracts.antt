@@ -12,7 +12,7 @@ use Rattle.record.specs.Forms.{textForm, packedForm}
 use Rattle.fixed.specs.Form.{fixedForm}
 use Rattle.nreader.specs.Reader.{ownerAt, ownerLength}
 use Rattle.units.specs.Units.{conversion}
-use Rattle.archive.specs.Archive.{oldLine, newLine, forward, back}
+use Rattle.archive.specs.Archive.{oldLineLength, newLineLength, forward, back}
 use Rattle.line.specs.declared.Line.{Line}
 use Rattle.collector.specs.Collect.{lineAfter, collected}
 use Rattle.collector.specs.declared.Collected.{Collected}
@@ -51,10 +51,10 @@ abbrev pub HeronReadPacked : List ℕ → Bool → List ℕ → Answer → List 
 HeronReadPacked message checksum out r after = Lays recordBytes recordWidth (readOf packedForm checksum message) out r after
 
 abbrev pub HeronOldToNew : List ℕ → List ℕ → List ℕ → Answer → List ℕ → Type 0
-HeronOldToNew message serial out r after = Lays (λ l. l) newLine (forward message serial) out r after
+HeronOldToNew message serial out r after = Lays (λ l. l) newLineLength (forward message serial) out r after
 
 abbrev pub HeronNewToOld : List ℕ → List ℕ → Answer → List ℕ → Type 0
-HeronNewToOld message out r after = Lays (λ l. l) oldLine (back message) out r after
+HeronNewToOld message out r after = Lays (λ l. l) oldLineLength (back message) out r after
 
 abbrev pub HeronWriteFixed : List ℕ → List ℕ → ℕ → ℕ → ℕ → ℕ → ℕ → List ℕ → Bool → List ℕ → Answer → List ℕ → Type 0
 HeronWriteFixed serial owner kind focal maximum letter transmission version checksum out r after =

@@ -28,7 +28,7 @@ use Rattle.fixed.specs.declared.Fixed.{Fixed}
 use Rattle.nreader.specs.Reader.{ownerAt, ownerLength}
 use Rattle.units.specs.Units.{Converts}
 use Rattle.units.specs.Refuses.{ConvertWhen}
-use Rattle.archive.specs.Archive.{oldLine, newLine, forward, back}
+use Rattle.archive.specs.Archive.{oldLineLength, newLineLength, forward, back}
 use Rattle.line.specs.declared.Line.{Line}
 use Rattle.collector.specs.Collect.{lineAfter, collected}
 use Rattle.collector.specs.declared.Collected.{Collected}
@@ -126,7 +126,7 @@ pub record Moved (n : ℕ) (line : Answer (List ℕ)) (out : List ℕ) (r : host
   -- then it stands at the start, and the bytes past it are unchanged
   pub lays : (l : List ℕ) → line ≡ accepted l → r .number ≡ 0 → after ≡ l ++ drop n out
   -- refused as the line is, then 2
-  pub refuses : (x : Refusal) → IsRefused x r ↔ ((line ≡ refused x) ⊎ ((l : List ℕ) × (line ≡ accepted l) × (length out < n) × (x ≡ Room n)))
+  pub refuses : (x : Refusal) → IsRefused x r ↔ ((line ≡ refused x) ⊎ ((x ≡ Room n) × (length out < n) × ((l : List ℕ) × (line ≡ accepted l))))
   pub refused-same : (r .number ≡ 0 → ⊥) → after ≡ out
 
 -- ---- the other entries
@@ -159,8 +159,8 @@ pub record Promised : Type 0 where
   pub write-packed : Writer (fieldsTo HeronWritePacked) packedForm recordLowest Field 41
   pub write-fixed : Writer (itemsTo HeronWriteFixed) fixedForm fixedLowest Setting 67
   -- (what these lines are is in crate `archive`)
-  pub old-to-new : (m s out : List ℕ) (r : host.Answer) (after : List ℕ) → HeronOldToNew m s out r after → Moved newLine (forward m s) out r after
-  pub new-to-old : (m out : List ℕ) (r : host.Answer) (after : List ℕ) → HeronNewToOld m out r after → Moved oldLine (back m) out r after
+  pub old-to-new : (m s out : List ℕ) (r : host.Answer) (after : List ℕ) → HeronOldToNew m s out r after → Moved newLineLength (forward m s) out r after
+  pub new-to-old : (m out : List ℕ) (r : host.Answer) (after : List ℕ) → HeronNewToOld m out r after → Moved oldLineLength (back m) out r after
   pub convert : (field : ℕ) (z : ℤ) (unit wanted : ℕ) (r : Conversion) → HeronConvert field z unit wanted r → Converted field z unit wanted r
   pub checksum : (s : List ℕ) (r : host.Answer) → HeronChecksum s r → IsDone (sumOf s .high * 256 + sumOf s .low) r
   pub owner-start : (m : List ℕ) (checksum : Bool) (r : host.Answer) → HeronOwnerStart m checksum r → Asked ownerAt m checksum r

@@ -1,13 +1,14 @@
 -- The laws of `over`: its length, how writes one behind the other and one over another compose, and which stores come to one. Assumes nothing.
 use Prim.Native.Nat.{ℕ, _+_, _-_, _≤_, _<_}
 use mathlib.Core.List.{List, _++_, append-assoc}
-use mathlib.Core.Path.{_≡_, refl, sym, ap, _∙_}
+use mathlib.Core.Path.{_≡_, refl, sym, ap, ap₂, _∙_}
 use native.Mathlib.Omega.{arith}
 use borrow.Author.Tests.{le-leb, lt-leb, leb-true, leb-false}
 use lib.Dec.{leb}
 use lib.ListN.{length, take, drop, length-append, length-take, length-drop}
-use lib.Seq.{take-at, drop-at, take-take, take-append-le, drop-append-add, drop-drop, length-take-le, sets, sets-eq, paste, take-length}
+use lib.Seq.{take-at, drop-at, take-take, take-append-le, drop-append-le, drop-append-add, drop-drop, length-take-le, sets, sets-eq, paste, take-length}
 use Rattle.laws.specs.Over.{over}
+use Rattle.laws.proofs.ListLaws.{drop-past}
 use Rattle.laws.proofs.Tests.{told}
 
 module _ (d s : List ℕ) (a : ℕ) where
@@ -35,6 +36,26 @@ module _ (d s : List ℕ) (a : ℕ) where
   -- a copy of all of s is one write
   pub paste-over : a + length s ≤ length d → paste d a s (length s) ≡ over d a s
   paste-over h = rw (take-length s) (append-assoc (take a d) s (drop (a + length s) d) ∙ sym (over-fits h))
+
+-- written over the front of two parts
+pub over-front : (b e t : List ℕ) (a : ℕ) → a + length t ≤ length b → over (b ++ e) a t ≡ over b a t ++ e
+over-front b e t a h =
+    let x = take a b in
+    let y = drop (a + length t) b in
+    over-fits (b ++ e) t a (omega (arith, length-append b e))
+    ∙ ap₂ (λ (u v : List ℕ). u ++ (t ++ v)) (take-append-le a b e (omega arith)) (drop-append-le (a + length t) b e h)
+    ∙ sym (append-assoc x (t ++ y) e ∙ ap (λ (v : List ℕ). x ++ v) (append-assoc t y e))
+    ∙ ap (λ (u : List ℕ). u ++ e) (sym (over-fits b t a h))
+
+-- what is written over bytes before them leaves those from n on
+pub drop-over : (d t : List ℕ) (a n : ℕ) → a + length t ≤ length d → a + length t ≤ n → drop n (over d a t) ≡ drop n d
+drop-over d t a n fits far =
+    let k = a + length t in
+    let p = take a d ++ t in
+    let long : length p ≡ k = length-append (take a d) t ∙ ap (λ (i : ℕ). i + length t) (length-take-le a d (omega arith)) in
+    let e : k + (n - k) ≡ n = omega arith in
+    ap (drop n) (over-fits d t a fits ∙ sym (append-assoc (take a d) t (drop k d)))
+    ∙ ap (λ (i : ℕ). drop i (p ++ drop k d)) (sym e) ∙ drop-past p (drop k d) k (n - k) long ∙ drop-drop (n - k) k d ∙ ap (λ (i : ℕ). drop i d) e
 
 -- what was written at the start is read there
 pub take-over : (d s : List ℕ) (n : ℕ) → length s ≡ n → n ≤ length d → take n (over d 0 s) ≡ s

@@ -6,7 +6,7 @@ use mathlib.Core.Path.{_≡_, refl}
 use native.Mathlib.Omega.{arith}
 use lib.ListN.{length, length-append}
 use Rattle.digits.specs.Digits.{digits, widest}
-use Rattle.codec.specs.Codec.{Codec, number, tagged}
+use Rattle.codec.specs.Codec.{Codec, number}
 use Rattle.codec.specs.Places.{endToEnd, further}
 use Rattle.codec.proofs.Exact.{Exact, holds, first-zero}
 use Rattle.codec.proofs.Texts.{text-long}
@@ -20,7 +20,7 @@ use Rattle.stop.proofs.Blames.{stop-alone, pair-blames}
 use Rattle.pupil.specs.Pupil.{pupilText, pupilPacked}
 use Rattle.pupil.proofs.Exact.{text-alone as pupil-text, packed-alone as pupil-packed}
 use Rattle.record.specs.Record.{topDistance, frontLowest, middleLowest, backLowest, figuresLowest, recordLowest}
-use Rattle.record.specs.Forms.{Front, frontText, middleText, backBy, backText, frontPacked, middlePacked, backPacked, serial, recordOf, partsOf, textLength, packedLength, textForm, packedForm}
+use Rattle.record.specs.Forms.{Front, frontText, middleText, backBy, backText, zoomText, frontPacked, middlePacked, backPacked, serial, recordOf, partsOf, textLength, packedLength, textForm, packedForm}
 use Rattle.record.specs.Places.{textPlaces, packedPlaces}
 use Rattle.record.specs.declared.Record.{Record}
 
@@ -53,7 +53,7 @@ back-blames zoom u =
 
 back-text : Blames backText 8 (endToEnd 0 (6 ∷ 5 ∷ 5 ∷ []))
 unfolding backText
-back-text = back-blames (tagged 122 11 (number 11 10 48 4 1000)) (digits-alone 122 10 4 1000 (omega arith) (omega arith))
+back-text = back-blames zoomText (digits-alone 122 10 4 1000 (omega arith) (omega arith))
 
 front-packed : Blames frontPacked 0 (endToEnd 0 (5 ∷ 2 ∷ []) ++ further 7 pairPlaces)
 unfolding frontPacked

@@ -7,7 +7,7 @@ use lib.IntN.{ℤ, pos}
 use lib.ListN.{length, take, drop, replicate, length-append}
 use Rattle.laws.specs.Every.{every}
 use Rattle.digits.specs.Digits.{digits}
-use Rattle.codec.specs.Codec.{Codec, failing, first, textOk, number, tagged, _⊗_, viaIso, spellings, each}
+use Rattle.codec.specs.Codec.{Codec, failing, first, textOk, number, _⊗_, viaIso, spellings, each}
 use Rattle.codec.specs.Places.{Place, fieldOf}
 use Rattle.codec.proofs.Exact.{first-zero}
 use Rattle.pointed.specs.Pointed.{pointed}
@@ -15,7 +15,7 @@ use Rattle.stop.specs.Stop.{stopOk, stop, pair}
 use Rattle.pupil.specs.Pupil.{pupilOk, pupilText, pupilPacked}
 use Rattle.record.specs.Record.{topDistance, topPupil, frontLowest, middleLowest, backLowest, figuresLowest, recordLowest, noFigures}
 use Rattle.record.specs.Places.{textPlaces, packedPlaces}
-use Rattle.record.specs.Forms.{Front, Middle, Groups, frontText, middleText, backText, viewText, frontPacked, middlePacked, backPacked, serial, groupsOf, recordOf, partsOf, pupilOf, textForm, packedForm}
+use Rattle.record.specs.Forms.{Front, Middle, Groups, frontText, middleText, backText, viewText, zoomText, frontPacked, middlePacked, backPacked, serial, groupsOf, recordOf, partsOf, pupilOf, textForm, packedForm}
 use Rattle.record.specs.declared.Figures.{Figures}
 use Rattle.record.specs.declared.Record.{Record}
 use Rattle.record.proofs.Exact.{front-text-long}
@@ -98,7 +98,7 @@ before-text p = length-append (frontText .print (p .0)) _ ∙ ap (λ (n : ℕ). 
 pub text-at : PupilAt textForm recordLowest pupilOf pupilText textPlaces 54
 unfolding textForm frontText middleText backText stop pointed pupilText textPlaces fieldOf
 text-at =
-    form-at frontText middleText viewText pupilText (tagged 122 11 (number 11 10 48 4 1000)) (λ f. refl) (λ m. refl) (λ v. refl) (λ z. refl)
+    form-at frontText middleText viewText pupilText zoomText (λ f. refl) (λ m. refl) (λ v. refl) (λ z. refl)
     textPlaces 54 before-text (λ s. refl) (λ y. refl)
 
 pub packed-at : PupilAt packedForm recordLowest pupilOf pupilPacked packedPlaces 25

@@ -44,9 +44,13 @@ viewText = tagged 86 9 (pointed 9 3 4095)
 abbrev pub backBy : Codec ℕ → Codec Back
 backBy zoom = viewText ⊗ (pupilText ⊗ zoom)
 
+-- z
+abbrev pub zoomText : Codec ℕ
+zoomText = tagged 122 11 (number 11 10 48 4 1000)
+
 -- V, E, z
 unfoldable pub backText : Codec Back
-backText = backBy (tagged 122 11 (number 11 10 48 4 1000))
+backText = backBy zoomText
 
 -- d and four groups, two groups, the shared pair
 unfoldable pub frontPacked : Codec Front

@@ -1,20 +1,22 @@
 -- The starred figures, computed by the checker. Assumes nothing.
 use mathlib.Core.Path.{refl}
-use Rattle.refusal.specs.Answer.{unless}
+use Rattle.refusal.specs.Answer.{unless, andThen}
 use Rattle.laws.specs.Every.{every}
 use Rattle.digits.specs.Digits.{digits, value, readDigits, readField}
-use Rattle.codec.specs.Codec.{fieldSays, passed, both, chained}
+use Rattle.codec.specs.Codec.{fieldSays, passed, both, mapped, chained, textOk, readTagged}
 use Rattle.codec.specs.Places.{fieldOf}
-use Rattle.frame.specs.Frame.{xorFrom, sumOf, ending}
-use Rattle.pointed.specs.Pointed.{pointed}
-use Rattle.stop.specs.Stop.{stopText, stop, pair}
+use Rattle.frame.specs.Frame.{xorFrom, sumOf, ending, isEnded, opening}
+use Rattle.frame.specs.Message.{found, afterwards, readOf}
+use Rattle.pointed.specs.Pointed.{pointed, joined, readPointed}
+use Rattle.stop.specs.Stop.{stopText, stop, pair, readStopText}
 use Rattle.pupil.specs.Pupil.{pupilText, pupilPacked}
 use Rattle.record.specs.Forms.{frontText, middleText, backText, frontPacked, middlePacked, backPacked, serial, textForm, packedForm}
 use Rattle.record.specs.Places.{textPlaces, packedPlaces}
 use Rattle.units.specs.Units.{byUnit, sizeIn, numberIn, inRange, conversion}
-use Rattle.archive.specs.Old.{oldZoom, oldBack, oldForm}
+use Rattle.archive.specs.Old.{byTen, oldZoom, oldBack, oldForm, form122}
+use Rattle.archive.specs.Archive.{added, dropped, forward, back}
 use Rattle.bench_lens.specs.Bench.{letterOf}
-use Rattle.starred.specs.Starred.{likeR, recordR, Session, textR, packedR, Starred, Amended, OldLine}
+use Rattle.starred.specs.Starred.{likeR, recordR, Session, textR, packedR, Starred, Amended, OldLines}
 
 pub starred : Starred
 unfolding likeR recordR textR packedR digits fieldOf packedPlaces xorFrom sumOf ending pointed stopText stop pair pupilText pupilPacked frontText middleText backText frontPacked middlePacked backPacked serial textForm packedForm unless byUnit sizeIn numberIn inRange conversion
@@ -51,9 +53,9 @@ amended = record {
   text-space-000 = refl;
 }
 
-pub old-line : OldLine
-unfolding likeR textR digits value readDigits readField fieldSays passed both chained every pointed stopText stop pupilText frontText middleText oldBack oldZoom oldForm
-old-line = record {
+pub old-lines : OldLines
+unfolding likeR recordR textR digits value readDigits readField fieldSays passed both chained mapped every textOk readTagged pointed joined readPointed stopText stop readStopText pupilText frontText middleText backText serial textForm oldBack oldZoom oldForm form122 byTen isEnded opening ending found afterwards readOf unless andThen added dropped forward back
+old-lines = record {
   r-at-057 = refl;
   sends-000 = refl;
   sends-100 = refl;
@@ -62,6 +64,10 @@ old-line = record {
   past-101 = refl;
   without-point = refl;
   without-z = refl;
+  forwards = refl;
+  forwards-minus = refl;
+  backs-lost = refl;
+  r-of-122 = refl;
 }
 
 pub session : Session

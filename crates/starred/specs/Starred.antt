@@ -5,16 +5,18 @@ use mathlib.Core.List.{List, [], _∷_, _++_}
 use mathlib.Core.Path.{_≡_}
 use lib.IntN.{ℤ, pos, negsuc}
 use lib.ListN.{take, drop}
-use Rattle.refusal.specs.Answer.{accepted}
+use Rattle.refusal.specs.Answer.{accepted, refused}
+use Rattle.refusal.specs.declared.Refusal.the-variants.{Lost}
 use Rattle.codec.specs.Codec.{got, wrong}
 use Rattle.codec.specs.Places.{fieldOf}
 use Rattle.frame.specs.Frame.{framed}
-use Rattle.pupil.specs.Pupil.{pupilText, pupilPacked}
+use Rattle.pupil.specs.Pupil.{pupilText, pupilPacked, plusText, minusText}
 use Rattle.record.specs.Forms.{textForm, packedForm}
 use Rattle.record.specs.Places.{textPlaces, packedPlaces}
 use Rattle.record.specs.declared.Record.{Record}
 use Rattle.units.specs.Units.{conversion}
-use Rattle.archive.specs.Old.{oldZoom, oldForm}
+use Rattle.archive.specs.Old.{oldZoom, oldForm, form122}
+use Rattle.archive.specs.Archive.{forward, back}
 use Rattle.bench_lens.specs.Bench.{letterOf, benchSettings, benchMeasurement}
 
 -- record R, but for its focus distance, ring stop, tenth, entrance pupil and zoom
@@ -115,7 +117,7 @@ pub record Amended : Type 0 where
   pub text-space-000 : pupilText .parse (0x45 ∷ 0x20 ∷ 0x30 ∷ 0x30 ∷ 0x30 ∷ []) ≡ wrong 10
 
 -- [6]: R as an old line, and what its zoom is written as and read of: "zoom as z and x.xx in 0.00 to 1.00"
-pub record OldLine : Type 0 where
+pub record OldLines : Type 0 where
   pub r-at-057 : oldForm .print (likeR 798 56 5 (pos 23) 570 .figures) ≡ take 59 textR ++ 0x7A ∷ 0x30 ∷ 0x2E ∷ 0x35 ∷ 0x37 ∷ []
   pub sends-000 : oldZoom .print 0 ≡ 0x7A ∷ 0x30 ∷ 0x2E ∷ 0x30 ∷ 0x30 ∷ []
   pub sends-100 : oldZoom .print 1000 ≡ 0x7A ∷ 0x31 ∷ 0x2E ∷ 0x30 ∷ 0x30 ∷ []
@@ -124,3 +126,11 @@ pub record OldLine : Type 0 where
   pub past-101 : oldZoom .parse (0x7A ∷ 0x31 ∷ 0x2E ∷ 0x30 ∷ 0x31 ∷ []) ≡ wrong 11
   pub without-point : oldZoom .parse (0x7A ∷ 0x30 ∷ 0x35 ∷ 0x37 ∷ 0x30 ∷ []) ≡ wrong 11
   pub without-z : oldZoom .parse (0x5A ∷ 0x30 ∷ 0x2E ∷ 0x35 ∷ 0x37 ∷ []) ≡ wrong 11
+  -- whole lines: R at 0.57 forward, with -000 forward, and at 0.575 back
+  pub forwards : forward (take 59 textR ++ 0x7A ∷ 0x30 ∷ 0x2E ∷ 0x35 ∷ 0x37 ∷ 0x0A ∷ 0x0D ∷ []) (recordR .serial) ≡
+      accepted (take 59 textR ++ 0x7A ∷ 0x30 ∷ 0x35 ∷ 0x37 ∷ 0x30 ∷ (drop 64 textR ++ 0x0A ∷ 0x0D ∷ []))
+  pub forwards-minus : forward (take 54 textR ++ minusText ++ 0x7A ∷ 0x30 ∷ 0x2E ∷ 0x35 ∷ 0x37 ∷ 0x0A ∷ 0x0D ∷ []) (recordR .serial) ≡
+      accepted (take 54 textR ++ plusText ++ 0x7A ∷ 0x30 ∷ 0x35 ∷ 0x37 ∷ 0x30 ∷ (drop 64 textR ++ 0x0A ∷ 0x0D ∷ []))
+  pub backs-lost : back (take 59 textR ++ 0x7A ∷ 0x30 ∷ 0x35 ∷ 0x37 ∷ 0x35 ∷ (drop 64 textR ++ 0x0A ∷ 0x0D ∷ [])) ≡ refused Lost
+  -- firmware 1.22: S and x.xx
+  pub r-of-122 : form122 .print (likeR 798 56 5 (pos 23) 570) ≡ take 59 textR ++ 0x7A ∷ 0x30 ∷ 0x2E ∷ 0x35 ∷ 0x37 ∷ drop 64 textR

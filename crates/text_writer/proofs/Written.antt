@@ -3,10 +3,9 @@ use mathlib.Core.List.{_++_, append-assoc}
 use mathlib.Core.Path.{_≡_, refl}
 use lib.ListN.{length, length-append}
 use Rattle.digits.specs.Digits.{digits}
-use Rattle.codec.specs.Codec.{number, tagged}
 use Rattle.pointed.specs.Pointed.{pointed}
 use Rattle.pupil.specs.Pupil.{pupilText}
-use Rattle.record.specs.Forms.{Middle, middleText, backText, tenText, tenLength, serial, textForm, textLength}
+use Rattle.record.specs.Forms.{Middle, middleText, backText, zoomText, tenText, tenLength, serial, textForm, textLength}
 use Rattle.record.specs.declared.Figures.{Figures}
 use Rattle.record.specs.declared.Record.{Record}
 use Rattle.record.proofs.Exact.{front-text-long}
@@ -21,7 +20,7 @@ unfolding pointed pupilText digits
 ten-long f = simp (length-append, front-text-long, middle-long)
 
 pub contents-of : (r : Record) →
-    tenText (r .figures) ++ (tagged 122 11 (number 11 10 48 4 1000) .print (r .figures .zoom) ++ serial .print (r .serial)) ≡ textForm .print r
+    tenText (r .figures) ++ (zoomText .print (r .figures .zoom) ++ serial .print (r .serial)) ≡ textForm .print r
 unfolding textForm backText
 contents-of r = simp append-assoc
 

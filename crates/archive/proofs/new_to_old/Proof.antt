@@ -3,7 +3,7 @@ use mathlib.Core.Path.{sym, ap, _∙_}
 use Rattle.refusal.specs.Answer.{accepted}
 use Rattle.record.specs.declared.RecordRead.{RecordRead}
 use Rattle.record.proofs.Told.{told-refused, told-done}
-use Rattle.archive.specs.Archive.{oldLine}
+use Rattle.archive.specs.Archive.{oldLineLength}
 use Rattle.archive.proofs.Laws.{not-moved, moves-by, back-refused, back-read}
 use borrow.Author.Needs.{needs}
 use Rattle.archive.proofs.new_to_old.Statement.{statement}
@@ -26,7 +26,7 @@ returns c =
     let v = c .before in
     let r = v .before .before in
     let read = ap (λ (x : RecordRead). x .verdict) (sym (r .read-text .ensures)) ∙ v .verdict .given .1 in
-    moves-by oldLine _ (back-refused _ (told-refused _ read)) (not-moved oldLine _ _)
+    moves-by oldLineLength _ (back-refused _ (told-refused _ read)) (not-moved oldLineLength _ _)
 
 same-length : tie.Need-same-length
 same-length c = search needs
@@ -37,7 +37,7 @@ returns-2 c =
     let t = w .before .before .before in
     let r = t .before .before in
     let read = ap (λ (x : RecordRead). x .verdict) (sym (r .read-text .ensures)) ∙ t .enum-told .given .1 in
-    moves-by oldLine _ (back-read _ (told-done _ read ∙ ap (λ (x : RecordRead). accepted (x .contents)) (sym (r .read-text .ensures)))) (w .write-old .ensures)
+    moves-by oldLineLength _ (back-read _ (told-done _ read ∙ ap (λ (x : RecordRead). accepted (x .contents)) (sym (r .read-text .ensures)))) (w .write-old .ensures)
 
 pub new-to-old-spec : {M : Type 1} → statement M
 new-to-old-spec =

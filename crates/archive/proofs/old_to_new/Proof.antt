@@ -14,7 +14,7 @@ use Rattle.record.proofs.Exact.{text-lowest}
 use Rattle.gather.specs.Gather.{elevenSays}
 use Rattle.serial.proofs.Given.{stands-record}
 use Rattle.archive.specs.Old.{oldForm, oldLength}
-use Rattle.archive.specs.Archive.{newLine}
+use Rattle.archive.specs.Archive.{newLineLength}
 use Rattle.archive.proofs.Exact.{old-width}
 use Rattle.archive.proofs.Laws.{not-moved, moves-by, forward-refused, forward-read, read-fits, added-written}
 use borrow.Author.Needs.{needs}
@@ -61,7 +61,7 @@ returns : tie.Need-returns
 returns c =
     let r = c .before in
     let o = r .before .before in
-    moves-by newLine _ (forward-refused _ _ (reads-refused oldForm oldLength old-width false _ _ (sym (o .«open» .ensures) ∙ r .r .given .1))) (not-moved newLine _ _)
+    moves-by newLineLength _ (forward-refused _ _ (reads-refused oldForm oldLength old-width false _ _ (sym (o .«open» .ensures) ∙ r .r .given .1))) (not-moved newLineLength _ _)
 
 returns-2 : tie.Need-returns-2
 unfolding found elevenSays
@@ -69,9 +69,9 @@ returns-2 c =
     let i = c .before in
     let l = i .before .before in
     let t = l .before .before in
-    moves-by newLine _
+    moves-by newLineLength _
     (forward-refused _ _ (reads-on oldForm oldLength old-width false _ (opened t) ∙ ap found (sym (l .read-old .ensures) ∙ ap elevenSays (i .i .given .1))))
-    (not-moved newLine _ (Contents _))
+    (not-moved newLineLength _ (Contents _))
 
 same-length : tie.Need-same-length
 same-length c = search needs
@@ -86,7 +86,7 @@ returns-3 c =
     let t = l .before .before in
     let b = t .before .before .before .before .before .before in
     let read = reads-on oldForm oldLength old-width false (b .args .m .now) (opened t) ∙ ap found (sym (l .read-old .ensures) ∙ ap elevenSays (f .figures .given .1)) in
-    moves-by newLine _ (forward-read _ (b .args .text .now) read)
+    moves-by newLineLength _ (forward-read _ (b .args .text .now) read)
     (added-written _ (b .args .text .now) _ (read-fits _ _ read .0)
     (writes-alike textForm Field false _ (stands-record textForm text-lowest _ (b .args .text .now) (r .record-from .ensures)) (w .write-text .ensures)))
 

@@ -8,7 +8,7 @@ use Rattle.refusal.specs.declared.Refusal.the-variants.{Lost}
 use Rattle.frame.proofs.Answers.{room-fits, short-left, done-left}
 use Rattle.text_writer.proofs.Written.{ten-long}
 use Rattle.archive.specs.Old.{byTen, oldForm, oldLength}
-use Rattle.archive.specs.Archive.{oldLine}
+use Rattle.archive.specs.Archive.{oldLineLength}
 use Rattle.archive.proofs.Exact.{zoom-long, old-long, old-parts}
 use Rattle.archive.proofs.Laws.{moved, not-moved, moves-by, dropped-yes, dropped-no}
 use borrow.Author.Needs.{needs}
@@ -17,7 +17,7 @@ use Rattle.archive.proofs.write_old.Tie as tie
 
 returns : tie.Need-returns
 unfolding byTen
-returns c = moves-by oldLine _ (dropped-no _ (ne-eqb _ 0 (c .if1 .taken))) (not-moved oldLine _ Lost)
+returns c = moves-by oldLineLength _ (dropped-no _ (ne-eqb _ 0 (c .if1 .taken))) (not-moved oldLineLength _ Lost)
 
 cast-room-for : tie.Need-cast-room-for
 cast-room-for c = search needs
@@ -35,8 +35,8 @@ returns-2 : tie.Need-returns-2
 unfolding byTen
 returns-2 c =
     let r = c .before .before in
-    moves-by oldLine _ (dropped-yes _ (eq-eqb _ 0 (r .before .if1 .left)))
-    (moved oldLine _ _ (r .room-for .ensures) (short-left oldForm _ _ _ oldLength (old-long _) (r .room-for .ensures) _ (c .enum-told .given .1)))
+    moves-by oldLineLength _ (dropped-yes _ (eq-eqb _ 0 (r .before .if1 .left)))
+    (moved oldLineLength _ _ (r .room-for .ensures) (short-left oldForm _ _ _ oldLength (old-long _) (r .room-for .ensures) _ (c .enum-told .given .1)))
 
 put-ten-requires : tie.Need-put-ten-requires
 put-ten-requires c κs = search needs
@@ -65,8 +65,8 @@ returns-3 c =
     let contents =
     run (next _ (t .put-ten .ensures) (ten-long f) (last _ (z .put-zoom .ensures) (zoom-long _))) (omega (arith, room-fits _ (sym room)))
     ∙ ap (over _ 0) (old-parts f) in
-    moves-by oldLine _ (dropped-yes _ (eq-eqb _ 0 (r .before .if1 .left)))
-    (moved oldLine _ _ room (done-left oldForm _ _ _ oldLength (old-long _) room _ refl contents (e .put-ending .ensures)))
+    moves-by oldLineLength _ (dropped-yes _ (eq-eqb _ 0 (r .before .if1 .left)))
+    (moved oldLineLength _ _ room (done-left oldForm _ _ _ oldLength (old-long _) room _ refl contents (e .put-ending .ensures)))
 
 pub write-old-spec : {M : Type 1} → statement M
 write-old-spec =

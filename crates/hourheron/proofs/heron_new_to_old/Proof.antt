@@ -1,5 +1,5 @@
 -- `hourheron::heron_new_to_old` meets its contract: what the archive made, handed on. Assumes nothing.
-use Rattle.archive.specs.Archive.{oldLine, back}
+use Rattle.archive.specs.Archive.{oldLineLength, back}
 use Rattle.hourheron.proofs.Answers.{lays-made}
 use borrow.Author.Needs.{needs}
 use Rattle.hourheron.proofs.heron_new_to_old.Statement.{statement}
@@ -18,7 +18,7 @@ returns : tie.Need-returns
 returns c =
     let w = c .before .before .before in
     let a = w .before .before .before .before .args in
-    lays-made (λ l. l) oldLine (back (a .message .now)) (a .out .now) (w .new-to-old .ensures) (c .answer-to .ensures)
+    lays-made (λ l. l) oldLineLength (back (a .message .now)) (a .out .now) (w .new-to-old .ensures) (c .answer-to .ensures)
 
 pub heron-new-to-old-spec : {M : Type 1} → statement M
 heron-new-to-old-spec = tie.close (tie.spec new-to-old-requires answer-to-requires same-length returns)

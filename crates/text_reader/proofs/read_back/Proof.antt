@@ -1,8 +1,8 @@
 -- `text_reader::read_back` meets its contract: V and E with the zoom behind them. Assumes nothing.
 use mathlib.Core.Path.{refl, sym, ap, _∙_}
-use Rattle.codec.specs.Codec.{fieldSays, number, tagged}
+use Rattle.codec.specs.Codec.{fieldSays}
 use Rattle.codec.proofs.Fields.{tagged-number, parsed-other}
-use Rattle.record.specs.Forms.{backText}
+use Rattle.record.specs.Forms.{backText, zoomText}
 use Rattle.gather.specs.Gather.{threeSays}
 use Rattle.text_reader.proofs.Parts.{back-text-width, back-parts}
 use borrow.Author.Needs.{needs}
@@ -43,7 +43,7 @@ returns-2 c =
     let z = c .before in
     let e = z .before .before .before in
     c .with-zoom .ensures
-    ∙ back-parts _ (tagged 122 11 (number 11 10 48 4 1000)) _ refl (e .if1 .left) (ap (fieldSays 11) (z .read-tagged .ensures) ∙ tagged-number 122 11 10 48 4 1000 _)
+    ∙ back-parts _ zoomText _ refl (e .if1 .left) (ap (fieldSays 11) (z .read-tagged .ensures) ∙ tagged-number 122 11 10 48 4 1000 _)
 
 pub read-back-spec : {M : Type 1} → statement M
 read-back-spec =
