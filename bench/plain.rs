@@ -179,7 +179,8 @@ fn groups(bytes: &[u8]) -> Option<i32> {
 
 const BLANK_TEXT: &[u8; TEXT] = b"D0000000T0000t0.0+0Z0000H0000000N0000000F0000000V000.0E+000z0000S         ";
 
-/// Fields in range as text, before the serial.
+/// Fields in range as text, before the serial. (Laid into each entry, as if the entry had it alone; so is `text_fields`.)
+#[inline(always)]
 fn text_of(fields: &Fields) -> [u8; TEXT] {
     let [focus, aperture, stop, tenth, focal, hyperfocal, near, far, view, pupil, zoom] = *fields;
     let mut text = *BLANK_TEXT;
@@ -254,6 +255,7 @@ fn after(tag: u8, part: &[u8]) -> Option<&[u8]> {
 }
 
 /// Fields 1 to 11 of a text record's contents, or refusal 6; the zoom as `zoom` reads it behind its tag.
+#[inline(always)]
 fn text_fields(m: &[u8], zoom: impl Fn(&[u8]) -> Option<i32>) -> Result<Fields, Refusal> {
     Ok([
         held(1, after(b'D', &m[..8]).and_then(digits))?,
