@@ -64,10 +64,12 @@ module _ (f : Figures) where
         let t = tenText f in
         let l : List ℕ = 122 ∷ x ∷ 46 ∷ y ∷ u ∷ 10 ∷ 13 ∷ [] in
         let long = ten-long f in
+        let rest : List ℕ = y ∷ u ∷ 48 ∷ 83 ∷ s in
+        let behind = append-assoc (t ++ 122 ∷ x ∷ []) rest (10 ∷ 13 ∷ []) ∙ append-assoc t (122 ∷ x ∷ []) (rest ++ 10 ∷ 13 ∷ []) in
         new-is ∙ ap (λ (v : ℕ). t ++ 122 ∷ x ∷ y ∷ u ∷ (48 + v) ∷ 83 ∷ (s ++ 10 ∷ 13 ∷ [])) ten
         ∙ sym
         (ap (λ (m : List ℕ). newBytes m s) old-is
-        ∙ rw (take-past t l 59 2 long, at-past t l 59 3 long, at-past t l 59 4 long) (append-assoc (t ++ 122 ∷ x ∷ []) (y ∷ u ∷ 48 ∷ 83 ∷ s) (10 ∷ 13 ∷ []) ∙ append-assoc t (122 ∷ x ∷ []) (y ∷ u ∷ 48 ∷ 83 ∷ (s ++ 10 ∷ 13 ∷ []))))
+        ∙ rw (take-past t l 59 2 long, at-past t l 59 3 long, at-past t l 59 4 long) behind)
 
     -- back: the point comes, and what is behind the hundredths goes
     pub bytes-old : messageOf oldForm false f ≡ oldBytes (messageOf textForm false (withSerial f s))

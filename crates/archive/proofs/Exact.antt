@@ -21,6 +21,7 @@ use Rattle.stop.specs.Stop.{stop}
 use Rattle.pupil.specs.Pupil.{pupilText}
 use Rattle.record.specs.Record.{frontLowest, middleLowest, backLowest, figuresLowest}
 use Rattle.record.specs.Forms.{frontText, middleText, tenText, figuresOf, groupsOf}
+use Rattle.record.specs.Places.{textPlaces}
 use Rattle.record.specs.declared.Figures.{Figures}
 use Rattle.record.proofs.Exact.{front-text, middle-text, back-blames, front-text-long}
 use Rattle.archive.specs.Old.{byTen, oldZoom, oldBack, oldForm, oldLength, oldLowest, oldPlaces}
@@ -60,7 +61,7 @@ unfolding oldBack oldZoom
 back-blamed = back-blames oldZoom zoom-alone
 
 pub old-blames : Blames oldForm 0 oldPlaces
-unfolding oldForm oldPlaces frontText middleText oldBack oldZoom stop pointed pupilText
+unfolding oldForm oldPlaces textPlaces frontText middleText oldBack oldZoom stop pointed pupilText
 old-blames = iso-blames figuresOf groupsOf _ (λ p. refl) (λ f. refl) 0 _ (⊗-blames _ _ 0 _ _ front-text (⊗-blames _ _ 4 _ _ middle-text back-blamed))
 
 pub old-exact : Exact oldForm

@@ -43,7 +43,7 @@ unfolding oldLowest
 low-pupil f h = first-zero _ _ h .0
 
 old-at : PupilAt oldForm oldLowest (λ f. f .pupil) pupilText oldPlaces 54
-unfolding oldForm frontText middleText oldBack oldZoom stop pointed pupilText oldPlaces fieldOf
+unfolding oldForm frontText middleText oldBack oldZoom stop pointed pupilText oldPlaces textPlaces fieldOf
 old-at = record {
   before = λ f. beforePupil frontText middleText viewText pupilText oldZoom (groupsOf f);
   behind = λ f. oldZoom .print (f .zoom);

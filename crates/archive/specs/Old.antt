@@ -1,13 +1,15 @@
 -- The D line of old zoom firmware: the present one without S and its nine bytes, and with the zoom as z and x.xx. Document 000, notes 3 and 4.
 use Prim.Native.Nat.{ℕ, _+_, _*_, _/_, _%_}
 use mathlib.Core.Bool.{Bool, _&&_}
-use mathlib.Core.List.{List, [], _∷_}
+use mathlib.Core.List.{List, []}
 use lib.Dec.{leb, eqb}
+use lib.ListN.{take}
 use Rattle.codec.specs.Codec.{Codec, failing, first, passed, number, tagged, _⊗_, viaIso, through}
-use Rattle.codec.specs.Places.{Place, endToEnd}
+use Rattle.codec.specs.Places.{Place}
 use Rattle.pointed.specs.Pointed.{point}
 use Rattle.record.specs.Record.{topDistance, topPupil, figuresLowest}
 use Rattle.record.specs.Forms.{Back, frontText, middleText, backBy, serial, figuresOf, groupsOf, recordOf, partsOf}
+use Rattle.record.specs.Places.{textPlaces}
 use Rattle.record.specs.declared.Figures.{Figures}
 use Rattle.record.specs.declared.Record.{Record}
 
@@ -40,9 +42,9 @@ oldLength = 64
 unfoldable pub oldLowest : Figures → ℕ
 oldLowest f = first (figuresLowest topDistance topPupil f) (failing (byTen (f .zoom)) 11)
 
--- where its fields stand: D + 7, T + 4, t + 3, + and 1, Z + 4, H + 7, N + 7, F + 7, V + 5, E + 4, z + 4
+-- where its fields stand: as in the present line, which has one more
 unfoldable pub oldPlaces : List Place
-oldPlaces = endToEnd 0 (8 ∷ 5 ∷ 4 ∷ 2 ∷ 5 ∷ 8 ∷ 8 ∷ 8 ∷ 6 ∷ 5 ∷ 5 ∷ [])
+oldPlaces = take 11 textPlaces
 
 -- firmware 1.22 (document 000: S from 1.22 on, x.xx up to 1.22): S as now, and the zoom as it was
 unfoldable pub form122 : Codec Record
