@@ -282,6 +282,20 @@ fn main() {
     );
     entry(
         &mode,
+        "packed_to_text",
+        &packed,
+        |m, out| of_ours(heron::packed_to_text(&m.bytes, m.with_sum, out)),
+        |m, out| of_plain(plain::packed_to_text(&m.bytes, m.with_sum, out)),
+    );
+    entry(
+        &mode,
+        "packed_to_text_by_record",
+        &packed,
+        |m, out| of_ours(heron::packed_to_text_by_record(&m.bytes, m.with_sum, out)),
+        |m, out| of_plain(plain::packed_to_text(&m.bytes, m.with_sum, out)),
+    );
+    entry(
+        &mode,
         "write_fixed",
         &fixed,
         |d, out| of_ours(heron::write_fixed(&d.fixed(), d.with_sum, out)),

@@ -38,6 +38,8 @@ record_writer!(write_packed, heron_write_packed);
 reader!(read_text, heron_read_text);
 reader!(read_packed, heron_read_packed);
 reader!(read_fixed, heron_read_fixed);
+reader!(packed_to_text, heron_packed_to_text);
+reader!(packed_to_text_by_record, heron_packed_to_text_by_record);
 
 #[rustfmt::skip]
 pub fn old_to_new(message: &[u8], serial: &[u8], out: &mut [u8]) -> Answer {

@@ -112,7 +112,8 @@ fn seal(out: &mut [u8], contents: usize, with_sum: bool) -> usize {
     length
 }
 
-/// The contents of a message, or refusal 3, 4 or 5.
+/// The contents of a message, or refusal 3, 4 or 5. (Laid into each entry.)
+#[inline(always)]
 fn open<const CONTENTS: usize>(message: &[u8], with_sum: bool) -> Result<&[u8; CONTENTS], Refusal> {
     if message.len() != message_length(CONTENTS, with_sum) {
         return Err(Refusal::Length(message.len()));
@@ -206,12 +207,17 @@ fn text_of(fields: &Fields) -> [u8; TEXT] {
     text
 }
 
-/// A record in range as a text message; its length.
-pub fn put_text(fields: &Fields, serial: &[u8; 9], with_sum: bool, out: &mut [u8]) -> usize {
+/// A record in range as a text message; its length. (Laid into `packed_to_text`, as if that had it alone.)
+#[inline(always)]
+fn lay_text(fields: &Fields, serial: &[u8; 9], with_sum: bool, out: &mut [u8]) -> usize {
     let mut text = text_of(fields);
     text[65..].copy_from_slice(serial);
     out[..TEXT].copy_from_slice(&text);
     seal(out, TEXT, with_sum)
+}
+
+pub fn put_text(fields: &Fields, serial: &[u8; 9], with_sum: bool, out: &mut [u8]) -> usize {
+    lay_text(fields, serial, with_sum, out)
 }
 
 #[inline(never)]
@@ -367,11 +373,11 @@ fn packed_pupil(first: u8, second: u8) -> Option<i32> {
     Some(if first & 0x20 != 0 { -size } else { size })
 }
 
-#[inline(never)]
-pub fn read_packed(message: &[u8], with_sum: bool, out: &mut [u8]) -> Result<usize, Refusal> {
-    let m: &[u8; PACKED] = open(message, with_sum)?;
+/// Reads fields 1 to 11 of a packed record's contents, or gives refusal 6. (Laid into each entry, as the text record's are.)
+#[inline(always)]
+fn read_packed_fields(m: &[u8; PACKED], fields: &mut Fields) -> Result<(), Refusal> {
     let (first, second) = (i32::from(m[7]), i32::from(m[8]));
-    let fields = [
+    *fields = [
         held(1, after(b'd', &m[..5]).and_then(groups))?,
         held(2, groups(&m[5..7]))?,
         held(3, (first >= 0x80).then_some(first & 0x7F | (second & 0x40) << 1))?,
@@ -384,7 +390,26 @@ pub fn read_packed(message: &[u8], with_sum: bool, out: &mut [u8]) -> Result<usi
         held(10, packed_pupil(m[25], m[26]))?,
         held(11, groups(&m[27..29]))?,
     ];
+    Ok(())
+}
+
+#[inline(never)]
+pub fn read_packed(message: &[u8], with_sum: bool, out: &mut [u8]) -> Result<usize, Refusal> {
+    let m: &[u8; PACKED] = open(message, with_sum)?;
+    let mut fields = [0; 11];
+    read_packed_fields(m, &mut fields)?;
     lay_record(&fields, &m[29..], out)
+}
+
+/// A packed message as text: its fields are read, then written.
+#[inline(never)]
+pub fn packed_to_text(message: &[u8], with_sum: bool, out: &mut [u8]) -> Result<usize, Refusal> {
+    let m: &[u8; PACKED] = open(message, with_sum)?;
+    let mut fields = [0; 11];
+    read_packed_fields(m, &mut fields)?;
+    let serial = after(b'S', &m[29..]).and_then(|serial| checked_serial(serial).ok()).ok_or(Refusal::Contents(12))?;
+    let out = room(out, message_length(TEXT, with_sum))?;
+    Ok(lay_text(&fields, serial, with_sum, out))
 }
 
 // ---- the fixed data

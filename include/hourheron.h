@@ -1,10 +1,10 @@
 /* hourheron.h: the messages of a Cooke /i lens for a C host. C99 and C++11.
  *
- * Writers and readers of the text record (D), the packed record (Kd) and the fixed data (N), text records of
- * old zoom firmware moved to the present form and back, the conversion between 0.1 inch and 1 mm, the checksum,
- * the collector of a received line; for the camera side the cutter of a stream and the recorder. They are proved
- * in Rattle: each takes any input, and a reader accepts exactly the messages that its writer writes, a record's
- * reader also those with minus zero for the entrance pupil, which other makers send.
+ * Writers and readers of the text record (D), the packed record (Kd) and the fixed data (N), packed records turned
+ * to text, text records of old zoom firmware moved to the present form and back, the conversion between 0.1 inch
+ * and 1 mm, the checksum, the collector of a received line; for the camera side the cutter of a stream and the
+ * recorder. They are proved in Rattle: each takes any input, and a reader accepts exactly the messages that its
+ * writer writes, a record's reader also those with minus zero for the entrance pupil, which other makers send.
  *
  * Every function but a recorder's start answers by value with a number: 0 for done, else a refusal (enum
  * heron_refusal). A refusal writes to no memory that is lent for output, and what does not come with an answer
@@ -26,7 +26,7 @@
 #include <stdint.h>
 #include <string.h>
 
-#define HOURHERON_VERSION "0.7.0"
+#define HOURHERON_VERSION "0.8.0"
 
 /* ---- lengths in bytes */
 
@@ -256,6 +256,21 @@ heron_answer heron_write_packed(uint32_t focus, uint32_t aperture, uint32_t stop
  * Other makers' minus zero for the entrance pupil, E-000 or 60 40 packed, is read as 0; written again it is plus. */
 heron_answer heron_read_text(const uint8_t *message, size_t len, bool checksum, uint8_t *out, size_t out_len);
 heron_answer heron_read_packed(const uint8_t *message, size_t len, bool checksum, uint8_t *out, size_t out_len);
+
+/* ---- packed records as text */
+
+/* Write a packed record's message as a text record's to the start of out; bytes past it stay as they were. One checksum
+ * mode is for both: with it the packed message has HERON_PACKED_LEN_CHECKSUM bytes and the text HERON_TEXT_LEN_CHECKSUM,
+ * without it HERON_PACKED_LEN and HERON_TEXT_LEN. Done: value is the count of bytes written. Refused, in this order:
+ *   3, 4, 5, 6  as heron_read_packed
+ *   2  out shorter than the text message: the needed length
+ * Minus zero for the entrance pupil, 60 40, comes out as E+000.
+ * heron_packed_to_text goes straight from the packed bytes to the text, and looks for what is wrong only where something is;
+ * heron_packed_to_text_by_record reads a record and writes it. They answer alike and leave the same bytes, whatever they are
+ * handed. */
+heron_answer heron_packed_to_text(const uint8_t *message, size_t len, bool checksum, uint8_t *out, size_t out_len);
+heron_answer heron_packed_to_text_by_record(const uint8_t *message, size_t len, bool checksum,
+                                            uint8_t *out, size_t out_len);
 
 /* ---- old text records */
 

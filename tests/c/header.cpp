@@ -1,5 +1,5 @@
-// The header from C++: a record through both forms, to the old one and back, and fixed data through theirs, a stream through each cutter and a recorder. Exit
-// status 1 if something comes back otherwise.
+// The header from C++: a record through both forms, from one to the other, to the old one and back, and fixed data through theirs, a stream through each
+// cutter and a recorder. Exit status 1 if something comes back otherwise.
 #include <hourheron.h>
 
 // One message in two pieces, by the entry that is named; then the cutter is as a fresh one.
@@ -59,6 +59,17 @@ static bool moves(const heron_record &record)
            memcmp(again, message, len) == 0;
 }
 
+// A packed record as text, by both routes: what is written of the record.
+static bool transfers(const heron_record &record, bool checksum)
+{
+    uint8_t packed[HERON_LONGEST], text[HERON_LONGEST], straight[HERON_LONGEST], by_record[HERON_LONGEST];
+    size_t len = heron_record_to_packed(&record, checksum, packed, sizeof packed).value;
+    size_t text_len = heron_record_to_text(&record, checksum, text, sizeof text).value;
+    return heron_packed_to_text(packed, len, checksum, straight, sizeof straight).value == text_len &&
+           heron_packed_to_text_by_record(packed, len, checksum, by_record, sizeof by_record).value == text_len &&
+           memcmp(straight, text, text_len) == 0 && memcmp(by_record, text, text_len) == 0;
+}
+
 int main()
 {
     heron_record record = {798, 680, 56, 5, 0, 6123, 711, 909, 273, -23, 0, {'4', '0', '5', '0', '.', '0', '0', '9', '3'}};
@@ -73,7 +84,7 @@ int main()
     written = heron_record_to_packed(&text, false, message, sizeof message);
     if (written.number != HERON_DONE || heron_record_from_packed(message, written.value, false, &packed).number != HERON_DONE)
         return 1;
-    if (!cuts_packed(message, written.value) || !moves(record))
+    if (!cuts_packed(message, written.value) || !moves(record) || !transfers(record, false) || !transfers(record, true))
         return 1;
 
     heron_fixed fixed = {{'s', 'e', 'r', 'i', 'a', 'l', ' ', ' ', '1'}, {}, 'Z', 18, 100, 'b', 95, {'4', '.', '3', '4'}};

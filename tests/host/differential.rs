@@ -20,6 +20,7 @@ use tally::{hex, Differences, Tallies};
 const GUARD: usize = 16;
 const GUARD_BYTE: u8 = 0xEE;
 const LONGEST_ROOM: usize = 160;
+const LONGEST_MESSAGE: usize = 160;
 
 // ---- records and fixed data, in range or out of it
 
@@ -270,6 +271,29 @@ impl Test {
             self.compare("heron_owner_start", lens::owner_start(m, with_sum), library::owner_start(m, with_sum), input);
             self.compare("heron_owner_len", lens::owner_len(m, with_sum), library::owner_len(m, with_sum), input);
         }
+        if form.reader == TO_TEXT.reader {
+            self.by_record(m, with_sum, room);
+            self.read_again(m, with_sum);
+        }
+    }
+
+    /// Packed to text by the record: as the reference has it, and as the route straight from the bytes.
+    fn by_record(&mut self, m: &[u8], with_sum: bool, room: usize) {
+        let by_record = |out: &mut [u8]| library::packed_to_text_by_record(m, with_sum, out);
+        let input = || shown_message(m, with_sum);
+        self.lend("heron_packed_to_text_by_record", room, |out| lens::packed_to_text(m, with_sum, out), by_record, input);
+        self.lend("both routes", room, by_record, |out| library::packed_to_text(m, with_sum, out), input);
+    }
+
+    /// The text that comes out, read by the reference: the packed record.
+    fn read_again(&mut self, m: &[u8], with_sum: bool) {
+        if let Ok(text) = moved(if with_sum { 78 } else { 76 }, |out| library::packed_to_text(m, with_sum, out)) {
+            self.tallies.count("text, read again", Ok(0));
+            let (right, found) = (lens::packed_record(m, with_sum), lens::text_record(&text, with_sum));
+            if right != found {
+                self.differences.tell("text, read again", shown_message(m, with_sum), format!("{right:?}"), format!("{found:?}"));
+            }
+        }
     }
 
     fn old_to_new(&mut self, line: &[u8], serial: &[u8], room: usize) {
@@ -399,6 +423,32 @@ impl Test {
         self.back_and_forward(&line);
     }
 
+    /// Turns a packed message into text: right or damaged, also of any length, with another end or with minus zero; the room often
+    /// around the text's length.
+    fn random_transfer(&mut self) {
+        let with_sum = self.random.flag();
+        let right = (TO_TEXT.right)(&mut self.random, with_sum);
+        let (mut m, with_sum) = if self.random.flag() { (right, with_sum) } else { any_message(&mut self.random, &TO_TEXT) };
+        match self.random.below(16) {
+            0 => m = m.iter().copied().cycle().take(self.random.below(LONGEST_MESSAGE + 1)).collect(),
+            1 if m.len() >= 2 => {
+                let last = m.len() - 1 - self.random.below(2);
+                m[last] = self.random.pick(b"\n\r\x00\xFF");
+            }
+            2 if m.len() >= PACKED.contents => m = with_part(&m, &PACKED, 10, b"\x60\x40"),
+            _ => {}
+        }
+        if self.random.below(4) == 0 {
+            reseal(&mut m, with_sum);
+        }
+        let room = match self.random.below(4) {
+            0 => self.random.below(LONGEST_ROOM + 1),
+            1 => TO_TEXT.output,
+            _ => 74 + self.random.below(7),
+        };
+        self.read(&TO_TEXT, &m, with_sum, room);
+    }
+
     fn random_convert(&mut self) {
         let random = &mut self.random;
         let field = match random.below(8) {
@@ -442,7 +492,7 @@ impl Test {
                 self.write_fixed(&f, with_sum, room);
                 f.version.push(b' ');
                 self.write_fixed(&f, with_sum, room);
-                for form in [TEXT, PACKED, FIXED] {
+                for form in [TEXT, PACKED, TO_TEXT, FIXED] {
                     let mut m = (form.right)(&mut self.random, with_sum);
                     self.read(&form, &m, with_sum, room);
                     self.read(&form, &m, !with_sum, room);
@@ -489,12 +539,25 @@ impl Test {
     }
 
     /// Every pair of bytes in each packed field of two bytes, stop and tenth among them.
-    fn every_packed_pair(&mut self) {
-        let right = (PACKED.right)(&mut self.random, false);
+    fn every_packed_pair(&mut self, form: &Form, with_sum: bool) {
+        let right = (form.right)(&mut self.random, with_sum);
         for field in [2, 3, 5, 9, 10, 11] {
             for pair in 0..=u16::MAX {
-                let m = with_part(&right, &PACKED, field, &pair.to_be_bytes());
-                self.read(&PACKED, &m, false, PACKED.output);
+                let mut m = with_part(&right, form, field, &pair.to_be_bytes());
+                reseal(&mut m, with_sum);
+                self.read(form, &m, with_sum, form.output);
+            }
+        }
+    }
+
+    /// Packed messages of every length turned into every room.
+    fn every_length_and_room(&mut self) {
+        for with_sum in [false, true] {
+            let right = (TO_TEXT.right)(&mut self.random, with_sum);
+            for length in 0..=LONGEST_MESSAGE {
+                let mut m: Vec<u8> = right.iter().copied().cycle().take(length).collect();
+                reseal(&mut m, with_sum);
+                (0..=LONGEST_ROOM).for_each(|room| self.read(&TO_TEXT, &m, with_sum, room));
             }
         }
     }
@@ -644,14 +707,17 @@ fn main() {
 
     test.every_room();
     test.every_moved_room();
-    for form in [TEXT, PACKED, FIXED] {
+    test.every_length_and_room();
+    for form in [TEXT, PACKED, TO_TEXT, FIXED] {
         test.every_byte_and_length(&form, &[false, true]);
     }
     for form in [OLD, NEW] {
         test.every_byte_and_length(&form, &[false]);
     }
     test.every_zoom();
-    test.every_packed_pair();
+    test.every_packed_pair(&PACKED, false);
+    test.every_packed_pair(&TO_TEXT, false);
+    test.every_packed_pair(&TO_TEXT, true);
     test.every_text_number();
     test.every_written_number();
     test.every_conversion();
@@ -663,6 +729,7 @@ fn main() {
         test.random_pupil(&TEXT, b"E+000");
         test.random_pupil(&PACKED, b"\x40\x40");
         test.random_move();
+        test.random_transfer();
         test.random_convert();
         test.random_checksum();
     }

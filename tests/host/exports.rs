@@ -32,6 +32,8 @@ extern "C" {
         message: *const u8, len: usize, serial: *const u8, serial_len: usize, out: *mut u8, out_len: usize,
     ) -> Answer;
     pub fn heron_new_to_old(message: *const u8, len: usize, out: *mut u8, out_len: usize) -> Answer;
+    pub fn heron_packed_to_text(message: *const u8, len: usize, checksum: bool, out: *mut u8, out_len: usize) -> Answer;
+    pub fn heron_packed_to_text_by_record(message: *const u8, len: usize, checksum: bool, out: *mut u8, out_len: usize) -> Answer;
     pub fn heron_write_fixed(
         serial: *const u8, serial_len: usize, owner: *const u8, owner_len: usize, kind: u8, focal: u32, maximum: u32,
         letter: u8, transmission: u32, version: *const u8, version_len: usize, checksum: bool, out: *mut u8, out_len: usize,

@@ -110,6 +110,14 @@ pub fn new_to_old(message: &[u8], out: &mut [u8]) -> Result<usize, Refusal> {
     outcome(unsafe { heron_new_to_old(start(message), message.len(), start_mut(out), out_len) })
 }
 
+pub fn packed_to_text(message: &[u8], checksum: bool, out: &mut [u8]) -> Result<usize, Refusal> {
+    read_message(heron_packed_to_text, message, checksum, out)
+}
+
+pub fn packed_to_text_by_record(message: &[u8], checksum: bool, out: &mut [u8]) -> Result<usize, Refusal> {
+    read_message(heron_packed_to_text_by_record, message, checksum, out)
+}
+
 pub fn owner_start(message: &[u8], checksum: bool) -> Result<usize, Refusal> {
     ask_message(heron_owner_start, message, checksum)
 }

@@ -224,6 +224,15 @@ pub const PACKED: Form = Form {
     library: library::read_packed,
 };
 
+/// Packed records turned into text, straight from the bytes.
+pub const TO_TEXT: Form = Form {
+    reader: "heron_packed_to_text",
+    output: 78,
+    reference: lens::packed_to_text,
+    library: library::packed_to_text,
+    ..PACKED
+};
+
 pub const FIXED: Form = Form {
     reader: "heron_read_fixed",
     contents: lens::FIXED,

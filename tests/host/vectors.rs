@@ -27,6 +27,7 @@ struct Host {
     owner_len: fn(&[u8], bool) -> Outcome,
     old_to_new: fn(&[u8], &[u8], &mut [u8]) -> Outcome,
     new_to_old: fn(&[u8], &mut [u8]) -> Outcome,
+    packed_to_text: fn(&[u8], bool, &mut [u8]) -> Outcome,
     convert: fn(u32, i32, u8, u8) -> Result<i32, Refusal>,
     checksum: fn(&[u8]) -> Outcome,
 }
@@ -43,6 +44,7 @@ const REFERENCE: Host = Host {
     owner_len: lens::owner_len,
     old_to_new: lens::old_to_new,
     new_to_old: lens::new_to_old,
+    packed_to_text: lens::packed_to_text,
     convert: lens::convert,
     checksum: |bytes| Ok(usize::from(u16::from_be_bytes(lens::checksum(bytes)))),
 };
@@ -59,12 +61,15 @@ const LIBRARY: Host = Host {
     owner_len: library::owner_len,
     old_to_new: library::old_to_new,
     new_to_old: library::new_to_old,
+    packed_to_text: library::packed_to_text,
     convert: |field, number, unit, wanted| match library::convert(field, number, unit, wanted) {
         Converted { number: 0, value, .. } => Ok(value),
         Converted { number, field, .. } => Err(Refusal { number, value: u64::from(field) }),
     },
     checksum: library::checksum,
 };
+
+const BY_RECORD: Host = Host { name: "library, by the record", packed_to_text: library::packed_to_text_by_record, ..LIBRARY };
 
 // ---- the table's words
 
@@ -285,6 +290,10 @@ fn run(host: &Host, line: &[Word]) -> Option<Vec<Word>> {
             let message = inputs.bytes()?;
             lent(|out| (host.new_to_old)(&message, out)).map(|message| vec![Bytes(message)])
         }
+        "packed_to_text" => {
+            let (with_sum, message) = (inputs.with_sum()?, inputs.bytes()?);
+            lent(|out| (host.packed_to_text)(&message, with_sum, out)).map(|message| vec![Bytes(message)])
+        }
         "convert" => {
             let (field, n) = (inputs.number()? as u32, inputs.number()? as i32);
             let (unit, wanted) = (inputs.letter()?, inputs.letter()?);
@@ -318,7 +327,7 @@ fn main() {
         count += 1;
         // No text of the table has an equals sign in it.
         let parts = line.split_once(" = ").and_then(|(left, right)| Some((words(left)?, words(right)?)));
-        for host in [REFERENCE, LIBRARY] {
+        for host in [REFERENCE, LIBRARY, BY_RECORD] {
             let found = parts.as_ref().and_then(|(left, _)| run(&host, left));
             let expected = parts.as_ref().map(|(_, right)| right.clone());
             if expected.is_none() || found != expected {

@@ -13,6 +13,7 @@ int read_command(int argc, char **argv);
 int record_command(int argc, char **argv);
 int write_command(int argc, char **argv);
 int archive_command(int argc, char **argv);
+int transfer_command(int argc, char **argv);
 int convert_command(int argc, char **argv);
 int checksum_command(int argc, char **argv);
 
@@ -99,6 +100,23 @@ typedef struct {
 
 /* The line with which a command ends. */
 void print_counts(FILE *to, const counts *c);
+
+/* ---- messages moved to another form */
+
+/* Writes a message in another form to out, and answers as the library. */
+typedef heron_answer (*mover)(const part *p, const void *with, uint8_t *out, size_t out_len);
+
+/* How a command moves messages. */
+typedef struct {
+    const char *command;
+    mover make;
+    const void *with;
+    size_t length; /* of a message that can be moved */
+} move;
+
+/* Reads messages from the inputs and writes each to standard output in the other form, until that cannot be written. Tells
+ * on standard error what is not written, by its place, and at last the counts. Returns the exit status. */
+int move_inputs(const move *how, char **paths, int count);
 
 /* ---- what a message is and holds, as the end of a line that says where it stands, and lines below it */
 

@@ -54,18 +54,21 @@ static ssize_t next_piece(FILE *in, uint8_t *piece, size_t len)
 bool cut_stream(FILE *in, part_taker take, void *with)
 {
     static uint8_t piece[65536];
-    uint8_t bytes[HERON_CUTTER_LEN];
+    uint8_t held[HERON_CUTTER_LEN];
     heron_cutter cutter = {{0}, 0};
     unsigned long long start = 0, len = 0; /* of the message at hand */
     ssize_t came;
     while ((came = next_piece(in, piece, sizeof piece)) > 0 && !ferror(stdout))
         for (size_t at = 0; at < (size_t)came;) {
-            heron_cut cut = heron_cut_message(&cutter, piece + at, (size_t)came - at, bytes, sizeof bytes);
+            /* A message that starts in the piece is handed on from there: no memory is lent for it, and 2 is the answer. */
+            bool here = len == 0;
+            uint8_t *bytes = here ? piece + at : held;
+            heron_cut cut = heron_cut_message(&cutter, piece + at, (size_t)came - at, held, here ? 0 : sizeof held);
             at += cut.used;
             len += cut.used;
             if (!cut.ended)
                 continue;
-            take(&(part){true, start, len, cut.number == HERON_DONE ? bytes : NULL}, with);
+            take(&(part){true, start, len, cut.number == HERON_TOO_LONG ? NULL : bytes}, with);
             start += len;
             len = 0;
         }

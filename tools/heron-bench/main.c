@@ -6,13 +6,14 @@
 #include <stdlib.h>
 
 static const char help[] =
-    "usage: heron-bench read|record|write|archive|convert|checksum [OPTION...] [ARGUMENT...]\n"
+    "usage: heron-bench read|record|write|archive|transfer|convert|checksum [OPTION...] [ARGUMENT...]\n"
     "\n"
     "The messages of a Cooke /i lens on the bench:\n"
     "  read       says what each message of a stream or a file is and holds\n"
     "  record     asks the lens on a serial device for its records and says what each holds\n"
     "  write      writes a text record, a packed record or fixed data\n"
     "  archive    moves the text records of old zoom firmware to the present form, and back\n"
+    "  transfer   turns packed records to text records\n"
     "  convert    a distance or the entrance pupil from one unit to the other\n"
     "  checksum   the two checksum characters of some bytes\n"
     "'heron-bench COMMAND --help' says more.\n"
@@ -133,6 +134,7 @@ static const struct {
     {"record", record_command},
     {"write", write_command},
     {"archive", archive_command},
+    {"transfer", transfer_command},
     {"convert", convert_command},
     {"checksum", checksum_command},
 };

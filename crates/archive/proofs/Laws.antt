@@ -7,10 +7,9 @@ use native.Mathlib.Omega.{arith}
 use lib.Dec.{leb}
 use lib.ListN.{length, take, drop, length-drop}
 use lib.Seq.{take-take, drop-drop, length-take-le}
-use Rattle.laws.specs.Over.{over}
 use Rattle.laws.proofs.ListLaws.{drop-of-take, last-part}
 use Rattle.laws.proofs.Tests.{told}
-use Rattle.refusal.specs.Answer.{Answer, accepted, refused, unless, andThen}
+use Rattle.refusal.specs.Answer.{accepted, refused, unless, andThen}
 use Rattle.refusal.specs.declared.Refusal.{Refusal}
 use Rattle.refusal.specs.declared.Refusal.the-variants.{Field, Lost}
 use Rattle.digits.specs.Digits.{readDecimal}
@@ -19,7 +18,7 @@ use Rattle.codec.specs.Codec.{Got, passed, failing, first, both, chained, field
 use Rattle.codec.proofs.Exact.{first-zero}
 use Rattle.codec.proofs.Fields.{tagged-number}
 use Rattle.pointed.specs.Pointed.{point}
-use Rattle.frame.specs.Message.{readOf, messageOf, checked, roomFor, thenWrite, thenLeft, writeOf, leftBy, wroteOf, WritesMessage}
+use Rattle.frame.specs.Message.{readOf, messageOf, checked, thenWrite, thenLeft, writeOf, leftBy, WritesMessage, Moves}
 use Rattle.frame.specs.declared.Wrote.{Wrote}
 use Rattle.frame.specs.declared.Wrote.the-variants as wrote
 use Rattle.frame.proofs.Exactly.{reads-only}
@@ -31,7 +30,7 @@ use Rattle.record.proofs.Exact.{text-lowest, text-form-width}
 use Rattle.text_reader.specs.Reader.{withZoom}
 use Rattle.text_reader.proofs.Parts.{back-parts}
 use Rattle.archive.specs.Old.{byTen, oldZoom, oldForm, oldLength, oldLowest}
-use Rattle.archive.specs.Archive.{newLineLength, added, dropped, forward, back, Moves}
+use Rattle.archive.specs.Archive.{newLineLength, added, dropped, forward, back}
 use Rattle.archive.proofs.Exact.{zoom-width, old-exact, old-lowest}
 
 -- ---- the zoom
@@ -56,19 +55,6 @@ old-back s z l e =
     ∙ back-parts t oldZoom z zoom-width (length-take-le 16 (drop 48 s) (simp length-drop (omega arith))) (e ∙ ap (oldZoom .parse) (sym five))
 
 -- ---- a line moved
-
-module _ (n : ℕ) (out : List ℕ) where
-  -- where the room decides the answer
-  pub moved : (line : List ℕ) {w : Wrote} {after : List ℕ} → w ≡ wroteOf (roomFor n (length out)) → after ≡ over out 0 line → Moves n (accepted line) out w after
-  unfolding thenWrite thenLeft
-  moved line e p = record { answers = e; leaves = p }
-
-  pub not-moved : (x : Refusal) → Moves n (refused x) out (wrote.Refused x) out
-  unfolding thenLeft thenWrite
-  not-moved x = record { answers = refl; leaves = refl }
-
-  pub moves-by : {a b : Answer (List ℕ)} {w : Wrote} {after : List ℕ} → a ≡ b → Moves n b out w after → Moves n a out w after
-  moves-by e p = rw e p
 
 -- what is read decides; then the serial or the thousandths do
 module _ (m : List ℕ) where

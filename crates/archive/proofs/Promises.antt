@@ -16,14 +16,12 @@ use Rattle.codec.proofs.Exact.{holds, fine, first-zero, zero-first}
 use Rattle.codec.proofs.Ranges.{row, rows}
 use Rattle.codec.proofs.Texts.{text-long}
 use Rattle.codec.specs.Ranges.{LowestBy}
-use Rattle.frame.specs.Message.{readOf, messageOf, thenWrite, wroteOf}
-use Rattle.frame.specs.declared.Wrote.{Wrote}
+use Rattle.frame.specs.Message.{readOf, messageOf}
 use Rattle.frame.specs.declared.Wrote.the-variants as wrote
 use Rattle.frame.specs.Refuses.{ReadWhen}
 use Rattle.frame.proofs.Exactly.{exactly, reads-written, messages-long, framed-long}
-use Rattle.frame.proofs.Left.{then-same, then-lays}
+use Rattle.frame.proofs.Laid.{laid}
 use Rattle.frame.proofs.Refuses.{refuses}
-use Rattle.frame.proofs.Rooms.{then-accepted, accepted-then, then-refused, refused-then}
 use Rattle.record.specs.Record.{topDistance, topPupil, figuresLowest, recordLowest}
 use Rattle.record.specs.Forms.{textForm, textLength, withSerial}
 use Rattle.record.specs.Places.{textPlaces}
@@ -33,8 +31,8 @@ use Rattle.record.proofs.Exact.{text-form-blames, text-form-exact, text-form-wi
 use Rattle.record.proofs.Ranges.{figures-by-table}
 use Rattle.text_writer.proofs.Written.{record-long}
 use Rattle.archive.specs.Old.{byTen, oldForm, oldLength, oldLowest, oldPlaces}
-use Rattle.archive.specs.Archive.{oldLineLength, newLineLength, forward, back, Moves}
-use Rattle.archive.specs.Promises.{OldLine, NewLine, oldRanges, Minus, withPlus, newBytes, oldBytes, serialIn, ForwardWhen, BackWhen, Laid, Promised}
+use Rattle.archive.specs.Archive.{oldLineLength, newLineLength, forward, back}
+use Rattle.archive.specs.Promises.{OldLine, NewLine, oldRanges, Minus, withPlus, newBytes, oldBytes, serialIn, ForwardWhen, BackWhen, Promised}
 use Rattle.archive.proofs.Exact.{old-blames, old-exact, old-width, old-lowest, old-long}
 use Rattle.archive.proofs.Laws.{forward-refused, forward-read, back-refused, back-read, dropped-yes, dropped-no, added-yes, added-no, read-fits}
 use Rattle.archive.proofs.Zeros.{old-zero, old-same, old-plus, old-other, new-same, new-plus, new-other}
@@ -257,32 +255,6 @@ back-long m l e =
     let v = came m l e in
     let figures = v .contents .figures in
     ap length (v .line) ∙ framed-long false oldLength (oldForm .print figures) (old-long figures)
-
--- what the code answers tells the answer
-count-is : (a : Answer ℕ) (k : ℕ) → wroteOf a ≡ wrote.Count k → a ≡ accepted k
-count-is (accepted n) k e = cc
-count-is (refused x) k e = never (cc)
-
-no-count : (a : Answer ℕ) (x : Refusal) → wroteOf a ≡ wrote.Refused x → a ≡ refused x
-no-count (accepted n) x e = never (cc)
-no-count (refused y) x e = cc
-
-laid : (n : ℕ) (line : Answer (List ℕ)) (out : List ℕ) {w : Wrote} {after : List ℕ} → ((l : List ℕ) → line ≡ accepted l → length l ≡ n) → Moves n line out w after →
-    Laid n line out w after
-laid n line out long call =
-    let answer = thenWrite n line out in
-    record {
-      refuses = λ x. (
-        λ e. then-refused n line out x (no-count answer x (sym (call .answers) ∙ e)),
-        λ h. call .answers ∙ ap wroteOf (refused-then n line out x h),
-      );
-      does = λ k. (
-        λ e. then-accepted n line out k (count-is answer k (sym (call .answers) ∙ e)),
-        λ h. call .answers ∙ ap wroteOf (accepted-then n line out k h),
-      );
-      refused-same = λ x e. call .leaves ∙ then-same (λ l. l) n out line x long (no-count answer x (sym (call .answers) ∙ e));
-      lays = λ l k q e. call .leaves ∙ then-lays (λ l. l) n out line l k q (long l q) (count-is answer k (sym (call .answers) ∙ e));
-    }
 
 -- ---- all of it
 

@@ -2,12 +2,10 @@
 use Prim.Native.Nat.{ℕ}
 use mathlib.Core.Bool.{false}
 use mathlib.Core.List.{List}
-use Rattle.laws.specs.Gives.{Gives}
 use Rattle.refusal.specs.Answer.{Answer, accepted, unless, andThen}
 use Rattle.refusal.specs.declared.Refusal.the-variants.{Field, Lost}
 use Rattle.codec.specs.Codec.{textOk}
-use Rattle.frame.specs.Message.{readOf, messageOf, thenWrite, thenLeft, wroteOf}
-use Rattle.frame.specs.declared.Wrote.{Wrote}
+use Rattle.frame.specs.Message.{readOf, messageOf}
 use Rattle.record.specs.Forms.{textForm, withSerial}
 use Rattle.record.specs.declared.Figures.{Figures}
 use Rattle.archive.specs.Old.{byTen, oldForm}
@@ -33,7 +31,3 @@ forward m s = andThen (readOf oldForm false m) (λ f. added s f)
 
 unfoldable pub back : List ℕ → Answer (List ℕ)
 back m = andThen (readOf textForm false m) (λ r. dropped (r .figures))
-
--- "then 2": a line of n bytes at the start of the lent memory, the rest as it was; a refusal writes nothing
-abbrev pub Moves : ℕ → Answer (List ℕ) → List ℕ → Wrote → List ℕ → Type 0
-Moves n line out w after = Gives (wroteOf (thenWrite n line out)) (thenLeft (λ l. l) line out) w after

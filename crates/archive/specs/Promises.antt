@@ -1,5 +1,5 @@
 -- Request [6]'s sentences, of the lines that are moved. Statements only: proofs/Promises.antt proves each.
-use Prim.Native.Nat.{ℕ, _%_, _≤_, _<_}
+use Prim.Native.Nat.{ℕ, _%_}
 use mathlib.Core.Bool.{Bool, true, false}
 use mathlib.Core.List.{List, [], _∷_, _++_}
 use mathlib.Core.Logic.{_↔_, _≢_, _⊎_}
@@ -7,11 +7,12 @@ use mathlib.Core.Path.{_≡_}
 use lib.ListN.{length, take, drop, getD}
 use Rattle.laws.specs.Member.{_∈_}
 use Rattle.laws.specs.Over.{over}
-use Rattle.refusal.specs.Answer.{Answer, accepted, refused}
+use Rattle.refusal.specs.Answer.{accepted, refused}
 use Rattle.refusal.specs.declared.Refusal.{Refusal}
-use Rattle.refusal.specs.declared.Refusal.the-variants.{Field, Room, Length, Checksum, Contents, Lost}
+use Rattle.refusal.specs.declared.Refusal.the-variants.{Field, Length, Checksum, Contents, Lost}
 use Rattle.codec.specs.Codec.{textOk, spellings}
 use Rattle.codec.specs.Ranges.{Ranges, LowestBy}
+use Rattle.frame.specs.Laid.{Laid}
 use Rattle.frame.specs.Message.{readOf, messagesOf}
 use Rattle.frame.specs.Refuses.{ReadWhen}
 use Rattle.frame.specs.declared.Wrote.{Wrote}
@@ -69,17 +70,6 @@ ForwardWhen m s x =
 abbrev pub BackWhen : List ℕ → Refusal → Type 0
 BackWhen m x =
     ReadWhen recordLowest (spellings textForm) textPlaces newLineLength false m x ⊎ ((r : Record) × NewLine r m × (r .figures .zoom % 10 ≢ 0) × (x ≡ Lost))
-
--- what a call says that answers w and leaves after, of a line of n bytes and of lent memory
-pub record Laid (n : ℕ) (line : Answer (List ℕ)) (out : List ℕ) (w : Wrote) (after : List ℕ) : Type 0 where
-  -- refused as the line is; 2, with n, only where it is not
-  pub refuses : (x : Refusal) → (w ≡ wrote.Refused x) ↔ ((line ≡ refused x) ⊎ ((x ≡ Room n) × (length out < n) × ((l : List ℕ) × (line ≡ accepted l))))
-  -- done exactly where there is a line and room for it: the count is n
-  pub does : (k : ℕ) → (w ≡ wrote.Count k) ↔ ((l : List ℕ) × (line ≡ accepted l) × (n ≤ length out) × (k ≡ n))
-  -- a refusal writes nothing
-  pub refused-same : (x : Refusal) → w ≡ wrote.Refused x → after ≡ out
-  -- done, the line stands at the start, and the bytes past it are unchanged
-  pub lays : (l : List ℕ) (k : ℕ) → line ≡ accepted l → w ≡ wrote.Count k → after ≡ l ++ drop n out
 
 -- ---- all of it
 

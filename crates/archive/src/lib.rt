@@ -12,10 +12,11 @@ ghost use Prim.Native.Nat.{_≤_};
 ghost use lib.ListN.{length};
 ghost use Rattle.laws.specs.Over.{over};
 ghost use Rattle.codec.specs.Codec.{fieldSays};
+ghost use Rattle.frame.specs.Message.{Moves};
 ghost use Rattle.record.specs.Forms.{tenLength};
 ghost use Rattle.gather.specs.Gather.{elevenSays};
 ghost use Rattle.archive.specs.Old.{oldZoom, oldForm, oldLength};
-ghost use Rattle.archive.specs.Archive.{oldLineLength, dropped, Moves};
+ghost use Rattle.archive.specs.Archive.{oldLineLength, dropped};
 ghost use Rattle.archive.specs.Contracts.{OldToNew, NewToOld};
 
 // How many bytes the contents of an old line take.

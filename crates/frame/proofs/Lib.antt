@@ -4,5 +4,6 @@ pub mod Left
 pub mod Faithful
 pub mod Refuses
 pub mod Rooms
+pub mod Laid
 pub mod Stands
 pub mod Unique

@@ -3,3 +3,4 @@ pub mod Message
 pub mod Faithful
 pub mod Contracts
 pub mod Refuses
+pub mod Laid

@@ -75,3 +75,7 @@ wroteOf (refused r) = wrote.Refused r
 -- what a writer of messages promises
 abbrev pub WritesMessage : {A : Type 0} → Codec A → (ℕ → Refusal) → Bool → A → List ℕ → Wrote → List ℕ → Type 0
 WritesMessage c low checksum a out w after = Gives (wroteOf (writeOf c low checksum a out)) (leftBy c low checksum a out) w after
+
+-- what promises who lays a message of n bytes at the start of the lent memory, or refuses as the message is refused, then by 2
+abbrev pub Moves : ℕ → Answer (List ℕ) → List ℕ → Wrote → List ℕ → Type 0
+Moves n message out w after = Gives (wroteOf (thenWrite n message out)) (thenLeft (λ l. l) message out) w after

@@ -75,10 +75,10 @@ module _ (front : Codec Front) (middle : Codec Middle) (back : Codec Back) (i j 
 
 module _ (front : Codec Front) (middle : Codec Middle) (back : Codec Back) (i j k : ℕ) (p : front .width ≡ i) (q : middle .width ≡ j) (r : back .width ≡ k) (s : List ℕ) (l : length s ≡ i + (j + k) + 10) where
   -- three groups, and the serial behind them
-  abbrev form : Codec Record
+  abbrev pub form : Codec Record
   form = viaIso recordOf partsOf ((front ⊗ (middle ⊗ back)) ⊗ serial)
 
-  record-parts : form .parse s ≡
+  pub record-parts : form .parse s ≡
       mapped recordWith (both (mapped figuresOf (both (front .parse (take i s)) (both (middle .parse (take j (drop i s))) (back .parse (take k (drop (i + j) s))))))
       (serial .parse (take 10 (drop (i + (j + k)) s))))
   record-parts =

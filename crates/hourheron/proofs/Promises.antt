@@ -7,6 +7,7 @@ use mathlib.Core.Path.{_≡_, refl, sym, ap, _∙_, subst}
 use lib.IntN.{ℤ}
 use lib.ListN.{length, drop}
 use Rattle.laws.specs.Member.{_∈_}
+use Rattle.laws.proofs.OneAnswer.{one-outcome}
 use Rattle.laws.proofs.Tests.{never}
 use Rattle.refusal.specs.Answer.{Answer, accepted, refused}
 use Rattle.refusal.specs.declared.Refusal.{Refusal}
@@ -25,6 +26,8 @@ use Rattle.units.specs.Units.{Converts, conversion}
 use Rattle.demand2.proofs.Proved.{demand2}
 use Rattle.archive.specs.Archive.{oldLineLength, newLineLength, forward, back}
 use Rattle.archive.proofs.Promises.{promised as archive}
+use Rattle.transfer.specs.Transfer.{turned, turnedLength}
+use Rattle.transfer.proofs.Promises.{promised as transfer}
 use Rattle.cut_reader.proofs.Promises.{promised as cut}
 use Rattle.layout.specs.Promises.{Unpacks}
 use Rattle.layout.proofs.Promises.{promised as laid}
@@ -211,6 +214,9 @@ promised = record {
   write-fixed = writes _ _ _ _ _ (demand2 .fixed) (demand2 .fixed-refuses);
   old-to-new = λ m s out. moved newLineLength (forward m s) out (archive .forward-long m s);
   new-to-old = λ m out. moved oldLineLength (back m) out (archive .back-long m);
+  packed-to-text = λ m checksum out. moved (turnedLength checksum) (turned checksum m) out (transfer .long checksum m);
+  packed-to-text-by-record = λ m checksum out. moved (turnedLength checksum) (turned checksum m) out (transfer .long checksum m);
+  routes-agree = λ m checksum out r r′ after after′. one-outcome;
   convert = converts;
   checksum = λ s r e. (ap (λ (x : host.Answer). x .number) e, ap (λ (x : host.Answer). x .value) e);
   owner-start = asks _;

@@ -9,7 +9,7 @@ use Rattle.line.specs.declared.Line.{Line}
 use Rattle.collector.specs.declared.Collected.{Collected}
 use Rattle.cutter.specs.declared.Cutter.{Cutter}
 use Rattle.recorder.specs.declared.Recorder.{Recorder}
-use Rattle.hourheron.specs.Contracts.{HeronConvert, HeronChecksum, HeronWriteText, HeronWritePacked, HeronReadText, HeronReadPacked, HeronOldToNew, HeronNewToOld, HeronWriteFixed, HeronReadFixed, HeronOwnerStart, HeronOwnerLen, HeronCollect, HeronCutTextValue, HeronCutPackedValue, HeronCutFixedValue, HeronCutMessageValue, HeronRecorderFirst, HeronRecorderStart, HeronRecorderSendValue, HeronRecorderTakeValue}
+use Rattle.hourheron.specs.Contracts.{HeronConvert, HeronChecksum, HeronWriteText, HeronWritePacked, HeronReadText, HeronReadPacked, HeronOldToNew, HeronNewToOld, HeronPackedToText, HeronPackedToTextByRecord, HeronWriteFixed, HeronReadFixed, HeronOwnerStart, HeronOwnerLen, HeronCollect, HeronCutTextValue, HeronCutPackedValue, HeronCutFixedValue, HeronCutMessageValue, HeronRecorderFirst, HeronRecorderStart, HeronRecorderSendValue, HeronRecorderTakeValue}
 use Rattle.hourheron.specs.declared.Conversion.{Conversion}
 use Rattle.hourheron.specs.declared.Answer.{Answer}
 use Rattle.hourheron.specs.declared.CutValue.{CutValue}
@@ -59,6 +59,14 @@ one-heron-old-to-new message serial out = one-outcome
 pub one-heron-new-to-old : (message out : List ℕ) {r r′ : Answer} {after after′ : List ℕ} →
     HeronNewToOld message out r after → HeronNewToOld message out r′ after′ → (r ≡ r′) × (after ≡ after′)
 one-heron-new-to-old message out = one-outcome
+
+pub one-heron-packed-to-text : (message : List ℕ) (checksum : Bool) (out : List ℕ) {r r′ : Answer} {after after′ : List ℕ} →
+    HeronPackedToText message checksum out r after → HeronPackedToText message checksum out r′ after′ → (r ≡ r′) × (after ≡ after′)
+one-heron-packed-to-text message checksum out = one-outcome
+
+pub one-heron-packed-to-text-by-record : (message : List ℕ) (checksum : Bool) (out : List ℕ) {r r′ : Answer} {after after′ : List ℕ} →
+    HeronPackedToTextByRecord message checksum out r after → HeronPackedToTextByRecord message checksum out r′ after′ → (r ≡ r′) × (after ≡ after′)
+one-heron-packed-to-text-by-record message checksum out = one-outcome
 
 -- ---- what writes nothing
 

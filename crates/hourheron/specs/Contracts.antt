@@ -13,6 +13,7 @@ use Rattle.fixed.specs.Form.{fixedForm}
 use Rattle.nreader.specs.Reader.{ownerAt, ownerLength}
 use Rattle.units.specs.Units.{conversion}
 use Rattle.archive.specs.Archive.{oldLineLength, newLineLength, forward, back}
+use Rattle.transfer.specs.Transfer.{turned, turnedLength}
 use Rattle.line.specs.declared.Line.{Line}
 use Rattle.collector.specs.Collect.{lineAfter, collected}
 use Rattle.collector.specs.declared.Collected.{Collected}
@@ -55,6 +56,12 @@ HeronOldToNew message serial out r after = Lays (λ l. l) newLineLength (forward
 
 abbrev pub HeronNewToOld : List ℕ → List ℕ → Answer → List ℕ → Type 0
 HeronNewToOld message out r after = Lays (λ l. l) oldLineLength (back message) out r after
+
+abbrev pub HeronPackedToText : List ℕ → Bool → List ℕ → Answer → List ℕ → Type 0
+HeronPackedToText message checksum out r after = Lays (λ l. l) (turnedLength checksum) (turned checksum message) out r after
+
+abbrev pub HeronPackedToTextByRecord : List ℕ → Bool → List ℕ → Answer → List ℕ → Type 0
+HeronPackedToTextByRecord message checksum out r after = Lays (λ l. l) (turnedLength checksum) (turned checksum message) out r after
 
 abbrev pub HeronWriteFixed : List ℕ → List ℕ → ℕ → ℕ → ℕ → ℕ → ℕ → List ℕ → Bool → List ℕ → Answer → List ℕ → Type 0
 HeronWriteFixed serial owner kind focal maximum letter transmission version checksum out r after =

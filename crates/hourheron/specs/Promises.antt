@@ -29,6 +29,7 @@ use Rattle.nreader.specs.Reader.{ownerAt, ownerLength}
 use Rattle.units.specs.Units.{Converts}
 use Rattle.units.specs.Refuses.{ConvertWhen}
 use Rattle.archive.specs.Archive.{oldLineLength, newLineLength, forward, back}
+use Rattle.transfer.specs.Transfer.{turned, turnedLength}
 use Rattle.line.specs.declared.Line.{Line}
 use Rattle.collector.specs.Collect.{lineAfter, collected}
 use Rattle.collector.specs.declared.Collected.{Collected}
@@ -38,7 +39,7 @@ use Rattle.recorder.specs.declared.Recorder.{Recorder}
 use Rattle.layout.specs.Layout.{recordBytes, recordWidth, fixedBytes, fixedWidth}
 use Rattle.layout.specs.Unpack.{unpackRecord, unpackFixed}
 use Rattle.hourheron.specs.Host.{answerOf, conversionOf}
-use Rattle.hourheron.specs.Contracts.{HeronConvert, HeronChecksum, HeronWriteText, HeronWritePacked, HeronReadText, HeronReadPacked, HeronOldToNew, HeronNewToOld, HeronWriteFixed, HeronReadFixed, HeronOwnerStart, HeronOwnerLen, HeronCollect, HeronCutTextValue, HeronCutPackedValue, HeronCutFixedValue, HeronCutMessageValue, HeronRecorderFirst, HeronRecorderStart, HeronRecorderSendValue, HeronRecorderTakeValue}
+use Rattle.hourheron.specs.Contracts.{HeronConvert, HeronChecksum, HeronWriteText, HeronWritePacked, HeronReadText, HeronReadPacked, HeronOldToNew, HeronNewToOld, HeronPackedToText, HeronPackedToTextByRecord, HeronWriteFixed, HeronReadFixed, HeronOwnerStart, HeronOwnerLen, HeronCollect, HeronCutTextValue, HeronCutPackedValue, HeronCutFixedValue, HeronCutMessageValue, HeronRecorderFirst, HeronRecorderStart, HeronRecorderSendValue, HeronRecorderTakeValue}
 use Rattle.hourheron.specs.Stream.{CutReader, HandsMessage, SendCall, TakeCall}
 use Rattle.hourheron.specs.declared.Conversion.{Conversion}
 use Rattle.hourheron.specs.declared.Answer as host
@@ -117,9 +118,9 @@ abbrev pub itemsTo : (List ℕ → List ℕ → ℕ → ℕ → ℕ → ℕ → 
     Fixed → Bool → List ℕ → host.Answer → List ℕ → Type 0
 itemsTo Write a = Write (a .serial) (a .owner) (a .kind) (a .focal) (a .maximum) (a .letter) (a .transmission) (a .version)
 
--- ---- old lines
+-- ---- old lines, and packed records as text
 
--- what one call that moves a line says: line is the one of n bytes that it makes, or why it makes none
+-- what one call that makes another line of a message says: line is the one of n bytes that it makes, or why it makes none
 pub record Moved (n : ℕ) (line : Answer (List ℕ)) (out : List ℕ) (r : host.Answer) (after : List ℕ) : Type 0 where
   -- 0 with n, exactly where there is a line and room for it
   pub done : (k : ℕ) → IsDone k r ↔ ((l : List ℕ) × (line ≡ accepted l) × (n ≤ length out) × (k ≡ n))
@@ -161,6 +162,13 @@ pub record Promised : Type 0 where
   -- (what these lines are is in crate `archive`)
   pub old-to-new : (m s out : List ℕ) (r : host.Answer) (after : List ℕ) → HeronOldToNew m s out r after → Moved newLineLength (forward m s) out r after
   pub new-to-old : (m out : List ℕ) (r : host.Answer) (after : List ℕ) → HeronNewToOld m out r after → Moved oldLineLength (back m) out r after
+  -- (and what a packed message is turned into is in crate `transfer`)
+  pub packed-to-text : (m : List ℕ) (checksum : Bool) (out : List ℕ) (r : host.Answer) (after : List ℕ) → HeronPackedToText m checksum out r after →
+      Moved (turnedLength checksum) (turned checksum m) out r after
+  pub packed-to-text-by-record : (m : List ℕ) (checksum : Bool) (out : List ℕ) (r : host.Answer) (after : List ℕ) → HeronPackedToTextByRecord m checksum out r after →
+      Moved (turnedLength checksum) (turned checksum m) out r after
+  pub routes-agree : (m : List ℕ) (checksum : Bool) (out : List ℕ) (r r′ : host.Answer) (after after′ : List ℕ) →
+      HeronPackedToText m checksum out r after → HeronPackedToTextByRecord m checksum out r′ after′ → (r ≡ r′) × (after ≡ after′)
   pub convert : (field : ℕ) (z : ℤ) (unit wanted : ℕ) (r : Conversion) → HeronConvert field z unit wanted r → Converted field z unit wanted r
   pub checksum : (s : List ℕ) (r : host.Answer) → HeronChecksum s r → IsDone (sumOf s .high * 256 + sumOf s .low) r
   pub owner-start : (m : List ℕ) (checksum : Bool) (r : host.Answer) → HeronOwnerStart m checksum r → Asked ownerAt m checksum r

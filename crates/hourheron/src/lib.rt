@@ -27,7 +27,7 @@ ghost use Rattle.cutter.specs.Cutter.{fresh};
 ghost use Rattle.hourheron.specs.Host.{answerOf, answerTo, toldBy, Lays};
 ghost use Rattle.hourheron.specs.Cuts.{cutWith, cutTo};
 ghost use Rattle.hourheron.specs.Takes.{sendTo, answerBeside, LaysMade, LaysTaken};
-ghost use Rattle.hourheron.specs.Contracts.{HeronConvert, HeronChecksum, HeronWriteText, HeronWritePacked, HeronReadText, HeronReadPacked, HeronOldToNew, HeronNewToOld, HeronWriteFixed, HeronReadFixed, HeronOwnerStart, HeronOwnerLen, HeronCollect, HeronCutTextValue, HeronCutPackedValue, HeronCutFixedValue, HeronCutMessageValue, HeronRecorderFirst, HeronRecorderStart, HeronRecorderSendValue, HeronRecorderTakeValue};
+ghost use Rattle.hourheron.specs.Contracts.{HeronConvert, HeronChecksum, HeronWriteText, HeronWritePacked, HeronReadText, HeronReadPacked, HeronOldToNew, HeronNewToOld, HeronPackedToText, HeronPackedToTextByRecord, HeronWriteFixed, HeronReadFixed, HeronOwnerStart, HeronOwnerLen, HeronCollect, HeronCutTextValue, HeronCutPackedValue, HeronCutFixedValue, HeronCutMessageValue, HeronRecorderFirst, HeronRecorderStart, HeronRecorderSendValue, HeronRecorderTakeValue};
 
 // The refusal's number, or 0; and the value that comes with it, or the count.
 #[repr(C)]
@@ -273,6 +273,28 @@ pub extern "C" fn heron_new_to_old(message: &[u8], out: &mut [u8]) -> Answer
     ensures { λ r. ⌜ HeronNewToOld (now (message .entry)) (now (out .entry)) r (now (out .exit)) ⌝ }
 {
     answer_to(archive::new_to_old(message, out))
+}
+
+// ---- packed records as text
+
+// Turns a packed record's message into its text message.
+#[no_mangle]
+pub extern "C" fn heron_packed_to_text(message: &[u8], checksum: bool, out: &mut [u8]) -> Answer
+    ensures { λ r. ⌜ HeronPackedToText (now (message .entry)) checksum (now (out .entry)) r (now (out .exit)) ⌝ }
+{
+    answer_to(transfer::packed_to_text(message, checksum, out))
+}
+
+// Does the same by way of the record.
+#[no_mangle]
+pub extern "C" fn heron_packed_to_text_by_record(
+    message: &[u8],
+    checksum: bool,
+    out: &mut [u8],
+) -> Answer
+    ensures { λ r. ⌜ HeronPackedToTextByRecord (now (message .entry)) checksum (now (out .entry)) r (now (out .exit)) ⌝ }
+{
+    answer_to(transfer::by_record(message, checksum, out))
 }
 
 // ---- the fixed data

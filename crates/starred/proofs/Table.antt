@@ -5,18 +5,20 @@ use Rattle.laws.specs.Every.{every}
 use Rattle.digits.specs.Digits.{digits, value, readDigits, readField}
 use Rattle.codec.specs.Codec.{fieldSays, passed, both, mapped, chained, textOk, readTagged}
 use Rattle.codec.specs.Places.{fieldOf}
-use Rattle.frame.specs.Frame.{xorFrom, sumOf, ending, isEnded, opening}
+use Rattle.frame.specs.Frame.{xorFrom, sumOf, ending, isEnded, sums, opening}
 use Rattle.frame.specs.Message.{found, afterwards, readOf}
 use Rattle.pointed.specs.Pointed.{pointed, joined, readPointed}
-use Rattle.stop.specs.Stop.{stopText, stop, pair, readStopText}
+use Rattle.stop.specs.Stop.{stopOk, stopText, stop, readStop, readTenth, pair, readStopText}
 use Rattle.pupil.specs.Pupil.{pupilText, pupilPacked}
 use Rattle.record.specs.Forms.{frontText, middleText, backText, frontPacked, middlePacked, backPacked, serial, textForm, packedForm}
 use Rattle.record.specs.Places.{textPlaces, packedPlaces}
 use Rattle.units.specs.Units.{byUnit, sizeIn, numberIn, inRange, conversion}
 use Rattle.archive.specs.Old.{byTen, oldZoom, oldBack, oldForm, form122}
 use Rattle.archive.specs.Archive.{added, dropped, forward, back}
+use Rattle.transfer.specs.Bytes.{sixes}
+use Rattle.transfer.specs.Transfer.{turned}
 use Rattle.bench_lens.specs.Bench.{letterOf}
-use Rattle.starred.specs.Starred.{likeR, recordR, Session, textR, packedR, Starred, Amended, OldLines}
+use Rattle.starred.specs.Starred.{likeR, recordR, Session, textR, packedR, Starred, Amended, OldLines, Turns}
 
 pub starred : Starred
 unfolding likeR recordR textR packedR digits fieldOf packedPlaces xorFrom sumOf ending pointed stopText stop pair pupilText pupilPacked frontText middleText backText frontPacked middlePacked backPacked serial textForm packedForm unless byUnit sizeIn numberIn inRange conversion
@@ -68,6 +70,19 @@ old-lines = record {
   forwards-minus = refl;
   backs-lost = refl;
   r-of-122 = refl;
+}
+
+pub turns : Turns
+unfolding likeR recordR textR packedR sixes digits value readDigits readField fieldSays passed both chained mapped every readTagged stopOk readStop readTenth pair pupilPacked frontPacked middlePacked backPacked packedForm pointed stopText stop pupilText frontText middleText backText serial textForm xorFrom sumOf isEnded sums opening ending found afterwards readOf andThen turned
+turns = record {
+  r-plain = refl;
+  r-summed = refl;
+  minus-zero = refl;
+  wrong-pupil = refl;
+  text-sum = refl;
+  plain-for-summed = refl;
+  summed-for-plain = refl;
+  r-said = refl;
 }
 
 pub session : Session

@@ -1,12 +1,12 @@
--- Document 01's bench figures marked *: one table, one statement; the figure that [5] amends; and those of [6]'s old line.
+-- Document 01's bench figures marked *: one table, one statement; the figure that [5] amends; those of [6]'s old line; and [7]'s messages of R.
 use Prim.Native.Nat.{ℕ}
-use mathlib.Core.Bool.{true}
+use mathlib.Core.Bool.{true, false}
 use mathlib.Core.List.{List, [], _∷_, _++_}
 use mathlib.Core.Path.{_≡_}
 use lib.IntN.{ℤ, pos, negsuc}
 use lib.ListN.{take, drop}
 use Rattle.refusal.specs.Answer.{accepted, refused}
-use Rattle.refusal.specs.declared.Refusal.the-variants.{Lost}
+use Rattle.refusal.specs.declared.Refusal.the-variants.{Length, Checksum, Contents, Lost}
 use Rattle.codec.specs.Codec.{got, wrong}
 use Rattle.codec.specs.Places.{fieldOf}
 use Rattle.frame.specs.Frame.{framed}
@@ -17,6 +17,8 @@ use Rattle.record.specs.declared.Record.{Record}
 use Rattle.units.specs.Units.{conversion}
 use Rattle.archive.specs.Old.{oldZoom, oldForm, form122}
 use Rattle.archive.specs.Archive.{forward, back}
+use Rattle.transfer.specs.Bytes.{recordIn}
+use Rattle.transfer.specs.Transfer.{turned}
 use Rattle.bench_lens.specs.Bench.{letterOf, benchSettings, benchMeasurement}
 
 -- record R, but for its focus distance, ring stop, tenth, entrance pupil and zoom
@@ -134,3 +136,16 @@ pub record OldLines : Type 0 where
   pub backs-lost : back (take 59 textR ++ 0x7A ∷ 0x30 ∷ 0x35 ∷ 0x37 ∷ 0x35 ∷ (drop 64 textR ++ 0x0A ∷ 0x0D ∷ [])) ≡ refused Lost
   -- firmware 1.22: S and x.xx
   pub r-of-122 : form122 .print (likeR 798 56 5 (pos 23) 570) ≡ take 59 textR ++ 0x7A ∷ 0x30 ∷ 0x2E ∷ 0x35 ∷ 0x37 ∷ drop 64 textR
+
+-- [7]: R from packed to text, plain, with checksum, and with 60 40 and 70 40 for its pupil; with the text's checksum; under the other setting
+pub record Turns : Type 0 where
+  pub r-plain : turned false (packedR ++ 0x0A ∷ 0x0D ∷ []) ≡ accepted (textR ++ 0x0A ∷ 0x0D ∷ [])
+  pub r-summed : turned true (packedR ++ 0x4D ∷ 0x48 ∷ 0x0A ∷ 0x0D ∷ []) ≡ accepted (textR ++ 0x49 ∷ 0x46 ∷ 0x0A ∷ 0x0D ∷ [])
+  pub minus-zero : turned false (take 25 packedR ++ 0x60 ∷ 0x40 ∷ (drop 27 packedR ++ 0x0A ∷ 0x0D ∷ [])) ≡
+      accepted (take 54 textR ++ plusText ++ (drop 59 textR ++ 0x0A ∷ 0x0D ∷ []))
+  pub wrong-pupil : turned false (take 25 packedR ++ 0x70 ∷ 0x40 ∷ (drop 27 packedR ++ 0x0A ∷ 0x0D ∷ [])) ≡ refused (Contents 10)
+  pub text-sum : turned true (packedR ++ 0x49 ∷ 0x46 ∷ 0x0A ∷ 0x0D ∷ []) ≡ refused Checksum
+  pub plain-for-summed : turned true (packedR ++ 0x0A ∷ 0x0D ∷ []) ≡ refused (Length 41)
+  pub summed-for-plain : turned false (packedR ++ 0x4D ∷ 0x48 ∷ 0x0A ∷ 0x0D ∷ []) ≡ refused (Length 43)
+  -- what its bytes say
+  pub r-said : recordIn packedR ≡ recordR

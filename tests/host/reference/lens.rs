@@ -1,5 +1,5 @@
 //! The lens side's messages in plain Rust, written from document 01 and the requests alone: the text record (D), the packed
-//! record (Kd), the fixed data (N), the owner's part, old text records, the unit conversion and the checksum.
+//! record (Kd), the fixed data (N), the owner's part, old text records, packed records as text, the unit conversion and the checksum.
 //!
 //! Values are fields 1 to 11 as they stand in document 01's table (`fields[0]` is field 1). A function answers what is
 //! asked for or a refusal: document 01's number and the value that comes with it.
@@ -286,6 +286,52 @@ pub fn packed_record(message: &[u8], with_sum: bool) -> Result<Record, Refusal> 
     Ok(Record { fields, serial: tagged_serial(rest)? })
 }
 
+// ---- request 7: a packed message as a text one, by the patterns of 000's Appendix A and apart from the two forms above
+
+/// The number whose bits stand under x, highest first; none if a bit under 0 or 1 is another.
+fn bits(pattern: &str, bytes: &[u8]) -> Option<i64> {
+    pattern.bytes().enumerate().try_fold(0, |n, (place, sign)| {
+        let bit = bytes[place / 8] >> (7 - place % 8) & 1;
+        match sign {
+            b'x' => Some(2 * n + i64::from(bit)),
+            b'0' | b'1' => (bit == sign - b'0').then_some(n),
+            _ => Some(n),
+        }
+    })
+}
+
+pub fn text_line(message: &[u8], with_sum: bool) -> Result<Vec<u8>, Refusal> {
+    let m = opened(message, with_sum, PACKED)?;
+    let number = |field: usize, place: usize, pattern: &str, highest: i64| {
+        bits(pattern, &m[place..]).filter(|&n| n <= highest).ok_or(refusal(6, field))
+    };
+    let distance = |field: usize, place: usize| number(field, place, "01xxxxxx01xxxxxx01xxxxxx01xxxxxx", 9_999_999);
+    let focus = distance(1, 1).and_then(|n| number(1, 0, "01100100", 0).map(|_| n))?;
+    let aperture = number(2, 5, "01xxxxxx01xxxxxx", 4095)?;
+    // 000 prints the stop's eight bits in a row; by 001's example bytes the first byte has the low seven.
+    let stop = number(3, 7, "1xxxxxxx", 127)? + 128 * number(3, 8, ".x", 1)?;
+    let stop = match stop {
+        0..=99 => format!("{}.{}", stop / 10, stop % 10),
+        100..=250 if stop % 10 == 0 => format!("{}.", stop / 10),
+        _ => return Err(refusal(6, 3)),
+    };
+    let tenth = number(4, 8, "1.00xxxx", 9)?;
+    let focal = number(5, 9, "0100xxxx01xxxxxx", 1023)?;
+    let (hyperfocal, near, far) = (distance(6, 11)?, distance(7, 15)?, distance(8, 19)?);
+    let view = number(9, 23, "01xxxxxx01xxxxxx", 4095)?;
+    let sign = 1 - 2 * number(10, 25, "..x", 1)?;
+    let pupil = sign * number(10, 25, "01.0xxxx01xxxxxx", 999)?;
+    let zoom = number(11, 27, "0100xxxx01xxxxxx", 1000)?;
+    let (tag, serial) = (m[29], &m[30..]);
+    if tag != b'S' || !serial.iter().all(|b| (b' '..=b'~').contains(b)) {
+        return Err(refusal(6, 12));
+    }
+    let distances = format!("H{hyperfocal:07}N{near:07}F{far:07}");
+    let angles = format!("V{:03}.{}E{pupil:+04}z{zoom:04}S", view / 10, view % 10);
+    let line = format!("D{focus:07}T{aperture:04}t{stop}+{tenth}Z{focal:04}{distances}{angles}");
+    Ok(sealed([line.as_bytes(), serial].concat(), with_sum))
+}
+
 // ---- the fixed data
 
 pub fn fixed_message(f: &Fixed, with_sum: bool) -> Result<Vec<u8>, Refusal> {
@@ -413,6 +459,10 @@ pub fn old_to_new(message: &[u8], serial: &[u8], out: &mut [u8]) -> Result<usize
 
 pub fn new_to_old(message: &[u8], out: &mut [u8]) -> Result<usize, Refusal> {
     put(old_line(message), out)
+}
+
+pub fn packed_to_text(message: &[u8], with_sum: bool, out: &mut [u8]) -> Result<usize, Refusal> {
+    put(text_line(message, with_sum), out)
 }
 
 pub fn owner_start(message: &[u8], with_sum: bool) -> Result<usize, Refusal> {

@@ -1,10 +1,11 @@
 -- `archive::new_to_old` meets its contract: what the line refuses is refused, then what the writer of an old line does. Assumes nothing.
 use mathlib.Core.Path.{sym, ap, _∙_}
 use Rattle.refusal.specs.Answer.{accepted}
+use Rattle.frame.proofs.Laid.{not-moved, moves-by}
 use Rattle.record.specs.declared.RecordRead.{RecordRead}
 use Rattle.record.proofs.Told.{told-refused, told-done}
 use Rattle.archive.specs.Archive.{oldLineLength}
-use Rattle.archive.proofs.Laws.{not-moved, moves-by, back-refused, back-read}
+use Rattle.archive.proofs.Laws.{back-refused, back-read}
 use borrow.Author.Needs.{needs}
 use Rattle.archive.proofs.new_to_old.Statement.{statement}
 use Rattle.archive.proofs.new_to_old.Tie as tie

@@ -8,6 +8,7 @@ use Rattle.frame.specs.Frame.{opening}
 use Rattle.frame.specs.Message.{found}
 use Rattle.frame.proofs.Exactly.{opens}
 use Rattle.frame.proofs.Answers.{reads-refused, reads-on}
+use Rattle.frame.proofs.Laid.{not-moved, moves-by}
 use Rattle.frame.proofs.Stands.{writes-alike}
 use Rattle.record.specs.Forms.{textForm}
 use Rattle.record.proofs.Exact.{text-lowest}
@@ -16,7 +17,7 @@ use Rattle.serial.proofs.Given.{stands-record}
 use Rattle.archive.specs.Old.{oldForm, oldLength}
 use Rattle.archive.specs.Archive.{newLineLength}
 use Rattle.archive.proofs.Exact.{old-width}
-use Rattle.archive.proofs.Laws.{not-moved, moves-by, forward-refused, forward-read, read-fits, added-written}
+use Rattle.archive.proofs.Laws.{forward-refused, forward-read, read-fits, added-written}
 use borrow.Author.Needs.{needs}
 use Rattle.archive.proofs.old_to_new.Statement.{statement}
 use Rattle.archive.proofs.old_to_new.Tie as tie

@@ -6,11 +6,12 @@ use Rattle.laws.specs.Over.{over}
 use Rattle.laws.proofs.OverLaws.{last, next, run}
 use Rattle.refusal.specs.declared.Refusal.the-variants.{Lost}
 use Rattle.frame.proofs.Answers.{room-fits, short-left, done-left}
+use Rattle.frame.proofs.Laid.{moved, not-moved, moves-by}
 use Rattle.text_writer.proofs.Written.{ten-long}
 use Rattle.archive.specs.Old.{byTen, oldForm, oldLength}
 use Rattle.archive.specs.Archive.{oldLineLength}
 use Rattle.archive.proofs.Exact.{zoom-long, old-long, old-parts}
-use Rattle.archive.proofs.Laws.{moved, not-moved, moves-by, dropped-yes, dropped-no}
+use Rattle.archive.proofs.Laws.{dropped-yes, dropped-no}
 use borrow.Author.Needs.{needs}
 use Rattle.archive.proofs.write_old.Statement.{statement}
 use Rattle.archive.proofs.write_old.Tie as tie

@@ -1,0 +1,5 @@
+pub mod Lanes
+pub mod Pairs
+pub mod Stored
+pub mod Unique
+pub mod Words

@@ -1,0 +1,111 @@
+-- `transfer::packed_to_text` meets its contract: what is not right goes by the record; else the room decides. Assumes nothing.
+use Prim.Native.Nat.{_≤_}
+use mathlib.Core.Path.{_≡_, refl, sym, ap, _∙_}
+use native.Mathlib.Omega.{arith}
+use borrow.Author.Tests.{not-false}
+use lib.ListN.{length, take}
+use lib.Seq.{length-take-le}
+use Rattle.laws.proofs.OverLaws.{length-over}
+use Rattle.refusal.specs.Answer.{accepted}
+use Rattle.frame.specs.Message.{readOf}
+use Rattle.frame.proofs.Answers.{room-fits}
+use Rattle.record.specs.Forms.{packedForm, packedLength}
+use Rattle.transfer.specs.Bytes.{recordIn}
+use Rattle.transfer.proofs.Right.{accepted-so}
+use Rattle.transfer.proofs.Turned.{read-long, turned-short, turned-done}
+use borrow.Author.Needs.{needs}
+use Rattle.transfer.proofs.packed_to_text.Statement.{statement}
+use Rattle.transfer.proofs.packed_to_text.Tie as tie
+
+is-right-requires : tie.Need-is-right-requires
+is-right-requires c κs = search needs
+
+by-record-requires : tie.Need-by-record-requires
+by-record-requires c κs = search needs
+
+same-length : tie.Need-same-length
+same-length c = search needs
+
+returns : tie.Need-returns
+returns c = search needs
+
+cast-room-for : tie.Need-cast-room-for
+cast-room-for c = search needs
+
+room-for-requires : tie.Need-room-for-requires
+room-for-requires c κs = search needs
+
+enum-known-answer : tie.Need-enum-known-answer
+enum-known-answer c = search needs
+
+enum-told : tie.Need-enum-told
+enum-told c = search needs
+
+-- what the message holds
+right : (c : tie.Else1) → readOf packedForm (c .before .before .before .before .args .checksum) (c .before .before .before .before .args .m .now) ≡ accepted (recordIn (take packedLength (c .before .before .before .before .args .m .now)))
+right c = accepted-so _ _ (sym (c .before .is-right .ensures) ∙ not-false _ (c .if1 .left))
+
+enough : (c : tie.Else1) → packedLength ≤ length (c .before .before .before .before .args .m .now)
+enough c = read-long _ _ _ (right c)
+
+returns-2 : tie.Need-returns-2
+returns-2 c =
+    let r = c .before .before in
+    let a = r .before .before .before .before .before .args in
+    turned-short (a .checksum) (a .m .now) _ _ (right (r .before)) (r .room-for .ensures) _ (c .enum-told .given .1)
+
+sub-put-contents : tie.Need-sub-put-contents
+sub-put-contents c = search needs
+
+part-put-contents-start : tie.Need-part-put-contents-start
+part-put-contents-start c = search needs
+
+part-put-contents-end : tie.Need-part-put-contents-end
+part-put-contents-end c = omega (arith, enough (c .before .before .before .before .before))
+
+put-contents-requires : tie.Need-put-contents-requires
+put-contents-requires c κs =
+    let n = c .before .before .before in
+    let r = n .before .before in
+    (omega (arith, room-fits _ (sym (r .room-for .ensures) ∙ n .answer .given .1)), length-take-le packedLength (r .before .before .before .before .before .args .m .now) (enough (r .before)))
+
+put-ending-requires : tie.Need-put-ending-requires
+put-ending-requires c κs =
+    let p = c .before .before .before in
+    let n = p .before .before .before .before in
+    let r = n .before .before in
+    let same = ap length (p .put-contents .ensures) ∙ length-over _ _ _ in
+    omega (arith, room-fits _ (sym (r .room-for .ensures) ∙ n .answer .given .1), same)
+
+same-length-2 : tie.Need-same-length-2
+same-length-2 c = search needs
+
+returns-3 : tie.Need-returns-3
+returns-3 c =
+    let e = c .before .before in
+    let p = e .before .before .before .before in
+    let n = p .before .before .before .before in
+    let r = n .before .before in
+    let a = r .before .before .before .before .before .args in
+    turned-done (a .checksum) (a .m .now) _ _ (right (r .before)) (sym (n .answer .given .1) ∙ r .room-for .ensures) _ refl (p .put-contents .ensures) (e .put-ending .ensures)
+
+pub packed-to-text-spec : {M : Type 1} → statement M
+packed-to-text-spec =
+    tie.close
+    (tie.spec
+    is-right-requires
+    by-record-requires
+    same-length
+    returns
+    cast-room-for
+    room-for-requires
+    enum-known-answer
+    enum-told
+    returns-2
+    sub-put-contents
+    part-put-contents-start
+    part-put-contents-end
+    put-contents-requires
+    put-ending-requires
+    same-length-2
+    returns-3)

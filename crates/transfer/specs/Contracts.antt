@@ -1,0 +1,13 @@
+-- What each public function promises: its answer, and what lent memory holds after it. Both routes promise the same.
+use Prim.Native.Nat.{ℕ}
+use mathlib.Core.Bool.{Bool}
+use mathlib.Core.List.{List}
+use Rattle.frame.specs.Message.{Moves}
+use Rattle.frame.specs.declared.Wrote.{Wrote}
+use Rattle.transfer.specs.Transfer.{turned, turnedLength}
+
+abbrev pub ByRecord : List ℕ → Bool → List ℕ → Wrote → List ℕ → Type 0
+ByRecord m checksum out w after = Moves (turnedLength checksum) (turned checksum m) out w after
+
+abbrev pub PackedToText : List ℕ → Bool → List ℕ → Wrote → List ℕ → Type 0
+PackedToText m checksum out w after = Moves (turnedLength checksum) (turned checksum m) out w after

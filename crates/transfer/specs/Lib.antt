@@ -1,0 +1,4 @@
+pub mod Bytes
+pub mod Transfer
+pub mod Contracts
+pub mod Promises
