@@ -35,7 +35,7 @@ module _ (n : ℕ) (small : n < 10000) where
   abbrev lanes-of-four : ℕ
   lanes-of-four = 65536 * n - 6553599 * (n / 100)
 
-  pub two-lanes : lanes-of-four ≡ 65536 * (n % 100) + n / 100
+  two-lanes : lanes-of-four ≡ 65536 * (n % 100) + n / 100
   two-lanes = omega arith
 
   pub two-tens : bitAnd (lanes-of-four * 103 / 1024) 983055 ≡ n % 100 / 10 * 65536 + n / 100 / 10
@@ -86,7 +86,7 @@ module _ (n : ℕ) (small : n < 100000000) where
   abbrev second : ℕ
   second = n % 10000
 
-  pub two-halves : halves-of-eight ≡ 4294967296 * second + first
+  two-halves : halves-of-eight ≡ 4294967296 * second + first
   two-halves = omega arith
 
   pub two-hundreds : hundreds-of-eight ≡ second / 100 * 4294967296 + first / 100

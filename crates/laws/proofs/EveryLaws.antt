@@ -1,12 +1,12 @@
 -- A test of every member, one member after another: what was seen and what is left have the whole's answer. Assumes nothing.
-use Prim.Native.Nat.{ℕ, zero, suc, _≤_, _<_}
+use Prim.Native.Nat.{ℕ, suc, _≤_, _<_}
 use mathlib.Core.Bool.{Bool, true, false, _&&_}
-use mathlib.Core.List.{List, [], _∷_}
+use mathlib.Core.List.{List, _∷_}
 use mathlib.Core.Path.{_≡_, refl}
-use lib.ListN.{length, getD, take, drop, drop-of-length-le}
+use lib.ListN.{length, getD, drop, drop-of-length-le}
 use lib.Seq.{drop-cons}
 use Rattle.laws.specs.Every.{every}
-use Rattle.laws.proofs.Tests.{and-left, and-right, and-both}
+use Rattle.laws.proofs.Tests.{and-left, and-right}
 
 -- the first passes, and so do the others
 pub every-head : (ok : ℕ → Bool) (x : ℕ) (s : List ℕ) → every ok (x ∷ s) ≡ true → ok x ≡ true
@@ -16,19 +16,6 @@ every-head ok x s h = and-left (ok x) (every ok s) h
 pub every-tail : (ok : ℕ → Bool) (x : ℕ) (s : List ℕ) → every ok (x ∷ s) ≡ true → every ok s ≡ true
 unfolding every
 every-tail ok x s h = and-right (ok x) (every ok s) h
-
--- of a part, where the whole passes
-pub every-take : (ok : ℕ → Bool) (n : ℕ) (s : List ℕ) → every ok s ≡ true → every ok (take n s) ≡ true
-unfolding every
-every-take ok zero s h = refl
-every-take ok (suc n) [] h = refl
-every-take ok (suc n) (x ∷ s) h = and-both (every-head ok x s h) (every-take ok n s (every-tail ok x s h))
-
-pub every-drop : (ok : ℕ → Bool) (n : ℕ) (s : List ℕ) → every ok s ≡ true → every ok (drop n s) ≡ true
-unfolding every
-every-drop ok zero s h = h
-every-drop ok (suc n) [] h = refl
-every-drop ok (suc n) (x ∷ s) h = every-drop ok n s (every-tail ok x s h)
 
 -- the member at i joins what was seen
 pub every-next : (ok : ℕ → Bool) (s : List ℕ) (i : ℕ) (seen : Bool) → i < length s →

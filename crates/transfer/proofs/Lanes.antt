@@ -18,26 +18,26 @@ low : (a b : ℕ) → (4 * b * 64 + a) % 64 ≡ a % 64
 low a b = mul-add-mod-self-right (4 * b) 64 a
 
 module _ (a b c d x : ℕ) (p : a < 256) (q : b < 256) (r : c < 256) (s : d < 256) (e : x ≡ quadOf a b c d) where
-  pub odd : bitAnd x 4128831 ≡ c % 64 * 65536 + a % 64
+  odd : bitAnd x 4128831 ≡ c % 64 * 65536 + a % 64
   odd =
       let f : x ≡ (4 * d * 64 + c) * 65536 + (4 * b * 64 + a) = omega (arith, e) in
       ap (λ (y : ℕ). bitAnd y 4128831) f ∙ lanes (4 * b * 64 + a) (4 * d * 64 + c) (omega arith)
       ∙ ap₂ (λ (y z : ℕ). y * 65536 + z) (low c d) (low a b)
 
-  pub even : bitAnd (x / 256) 4128831 ≡ d % 64 * 65536 + b % 64
+  even : bitAnd (x / 256) 4128831 ≡ d % 64 * 65536 + b % 64
   even =
       let f : x / 256 ≡ d * 65536 + (4 * c * 64 + b) = omega (arith, e) in
       ap (λ (y : ℕ). bitAnd y 4128831) f ∙ lanes (4 * c * 64 + b) d (omega arith)
       ∙ ap (λ (z : ℕ). d % 64 * 65536 + z) (low b c)
 
 -- the two pairs
-pub paired : (a b c d u v : ℕ) → a < 64 → b < 64 → c < 64 → d < 64 → u ≡ c * 65536 + a → v ≡ d * 65536 + b →
+paired : (a b c d u v : ℕ) → a < 64 → b < 64 → c < 64 → d < 64 → u ≡ c * 65536 + a → v ≡ d * 65536 + b →
     (64 * u + v) % 65536 * 4096 + (64 * u + v) / 65536 ≡ a * 262144 + (b * 4096 + (c * 64 + d))
 paired a b c d u v p q r s e f =
     let above : (64 * u + v) / 65536 ≡ c * 64 + d = omega (arith, e, f) in
     omega (arith, e, f, above)
 
-pub four-in : (s : List ℕ) → length s ≡ 4 → getD s 0 0 % 64 * 262144 + (getD s 1 0 % 64 * 4096 + (getD s 2 0 % 64 * 64 + getD s 3 0 % 64)) ≡ sixes s
+four-in : (s : List ℕ) → length s ≡ 4 → getD s 0 0 % 64 * 262144 + (getD s 1 0 % 64 * 4096 + (getD s 2 0 % 64 * 64 + getD s 3 0 % 64)) ≡ sixes s
 unfolding sixes
 four-in (a ∷ b ∷ c ∷ d ∷ []) l = omega arith
 four-in [] l = absurd (omega arith)

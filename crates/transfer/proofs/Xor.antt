@@ -28,7 +28,7 @@ bits (suc (suc x)) y z p q r = absurd (omega arith)
 halves : (x y : ℕ) → x / 2 ≡ y / 2 → x % 2 ≡ y % 2 → x ≡ y
 halves x y p q = omega arith
 
-pub xor-assoc : (a b c : ℕ) → bitXor (bitXor a b) c ≡ bitXor a (bitXor b c)
+xor-assoc : (a b c : ℕ) → bitXor (bitXor a b) c ≡ bitXor a (bitXor b c)
 xor-assoc =
     bin-ind (λ (n : ℕ). (b c : ℕ) → bitXor (bitXor n b) c ≡ bitXor n (bitXor b c)) (λ b c. refl)
     (λ n ih b c.
@@ -47,7 +47,7 @@ crossed a b c d =
 
 -- ---- the bytes of a word
 
-pub together-xor : (k v w : ℕ) → together k (bitXor v w) ≡ bitXor (together k v) (together k w)
+together-xor : (k v w : ℕ) → together k (bitXor v w) ≡ bitXor (together k v) (together k w)
 unfolding together
 together-xor zero v w = refl
 together-xor (suc k) v w =
@@ -77,12 +77,12 @@ module _ (w : ℕ) where
 
 -- ---- bytes one after the other
 
-pub xor-onto : (x : ℕ) (s t : List ℕ) → xorFrom x (s ++ t) ≡ xorFrom (xorFrom x s) t
+xor-onto : (x : ℕ) (s t : List ℕ) → xorFrom x (s ++ t) ≡ xorFrom (xorFrom x s) t
 unfolding xorFrom
 xor-onto x [] t = refl
 xor-onto x (b ∷ s) t = xor-onto (bitXor x b) s t
 
-pub xor-word : (x : ℕ) (s : List ℕ) → ((i : ℕ) → getD s i 0 < 256) → xorFrom x s ≡ bitXor x (together (length s) (word s))
+xor-word : (x : ℕ) (s : List ℕ) → ((i : ℕ) → getD s i 0 < 256) → xorFrom x s ≡ bitXor x (together (length s) (word s))
 unfolding xorFrom together word
 xor-word x [] h = sym (xor-zero-r x)
 xor-word x (d ∷ s) h =
