@@ -1,13 +1,13 @@
 // Packed records as text, for the transfer station: straight from packed bytes to text bytes, and by way of a record.
-// Both routes promise the same. The straight one looks first whether the reader accepts, and has the other one tell why not.
+// Both routes promise the same. The straight one looks first whether the reader accepts, and asks it why only where it does not.
 use frame::Wrote;
 use record::PACKED_LENGTH;
 use record::TEXT_LENGTH;
 use refusal::Verdict;
-ghost use mathlib.Core.Bool.{_&&_};
-ghost use mathlib.Core.List.{_∷_};
+ghost use mathlib.Core.Bool.{false, _&&_};
+ghost use mathlib.Core.List.{List, _∷_};
 ghost use mathlib.Core.Path.{_≡_};
-ghost use Prim.Native.Nat.{_+_, _*_, _≤_, _<_};
+ghost use Prim.Native.Nat.{ℕ, _+_, _*_, _≤_, _<_};
 ghost use lib.Dec.{leb};
 ghost use lib.ListN.{length};
 ghost use Rattle.laws.specs.Over.{over};
@@ -311,12 +311,25 @@ pub fn by_record(m: &[u8], checksum: bool, out: &mut [u8]) -> Wrote
     }
 }
 
+// Why the reader refuses a message, where it does.
+fn refusal_of(m: &[u8], checksum: bool) -> Wrote
+    requires { ⌜ isAccepted (readOf packedForm checksum (now m)) ≡ false ⌝ }
+    ensures { λ w. ⌜ ((out : List ℕ) → PackedToText (now (m .entry)) checksum out w out) ⌝ }
+{
+    let read = packed_reader::read_packed(m, checksum);
+    let verdict = read.verdict;
+    match verdict {
+        Verdict::Refused(r) => Wrote::Refused(r),
+        Verdict::Done => Wrote::Count(0),
+    }
+}
+
 // Turns a packed message into the text message of the same record, straight.
 pub fn packed_to_text(m: &[u8], checksum: bool, out: &mut [u8]) -> Wrote
     ensures { λ w. ⌜ PackedToText (now (m .entry)) checksum (now (out .entry)) w (now (out .exit)) ⌝ }
 {
     if !is_right(m, checksum) {
-        return by_record(m, checksum, out);
+        return refusal_of(m, checksum);
     }
     let answer = frame::room_for(out.len(), TEXT_LENGTH as u32, checksum);
     let Wrote::Count(n) = answer else {

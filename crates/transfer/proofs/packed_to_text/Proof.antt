@@ -2,7 +2,7 @@
 use Prim.Native.Nat.{_≤_}
 use mathlib.Core.Path.{_≡_, refl, sym, ap, _∙_}
 use native.Mathlib.Omega.{arith}
-use borrow.Author.Tests.{not-false}
+use borrow.Author.Tests.{not-true, not-false}
 use lib.ListN.{length, take}
 use lib.Seq.{length-take-le}
 use Rattle.laws.proofs.OverLaws.{length-over}
@@ -20,14 +20,11 @@ use Rattle.transfer.proofs.packed_to_text.Tie as tie
 is-right-requires : tie.Need-is-right-requires
 is-right-requires c κs = search needs
 
-by-record-requires : tie.Need-by-record-requires
-by-record-requires c κs = search needs
-
-same-length : tie.Need-same-length
-same-length c = search needs
+refusal-of-requires : tie.Need-refusal-of-requires
+refusal-of-requires c κs = sym (c .before .is-right .ensures) ∙ not-true _ (c .if1 .taken)
 
 returns : tie.Need-returns
-returns c = search needs
+returns c = c .refusal-of .ensures _
 
 cast-room-for : tie.Need-cast-room-for
 cast-room-for c = search needs
@@ -77,8 +74,8 @@ put-ending-requires c κs =
     let same = ap length (p .put-contents .ensures) ∙ length-over _ _ _ in
     omega (arith, room-fits _ (sym (r .room-for .ensures) ∙ n .answer .given .1), same)
 
-same-length-2 : tie.Need-same-length-2
-same-length-2 c = search needs
+same-length : tie.Need-same-length
+same-length c = search needs
 
 returns-3 : tie.Need-returns-3
 returns-3 c =
@@ -94,8 +91,7 @@ packed-to-text-spec =
     tie.close
     (tie.spec
     is-right-requires
-    by-record-requires
-    same-length
+    refusal-of-requires
     returns
     cast-room-for
     room-for-requires
@@ -107,5 +103,5 @@ packed-to-text-spec =
     part-put-contents-end
     put-contents-requires
     put-ending-requires
-    same-length-2
+    same-length
     returns-3)
