@@ -1,4 +1,4 @@
-// For a C host: the writers, the readers, the owner's part, old lines moved, the conversion and the checksum, on
+// For a C host: the writers, the readers, the owner's part, packed records as text, old lines moved, the conversion and the checksum, on
 // numbers and byte slices; the line collector that the host keeps; and for the camera side the cutter and the
 // recorder, by value. No rule of the paper stands here.
 use collector::Collected;
