@@ -7,13 +7,8 @@ use native.Mathlib.Nat.{mod-lt}
 use native.Mathlib.Omega.{arith}
 use lib.Bits.{bitAnd}
 use Rattle.digits.specs.Digits.{digits, decimal}
-use Rattle.divided.specs.Bytes.{bytes}
+use Rattle.divided.specs.Bytes.{bytes, word}
 use Rattle.divided.proofs.Lanes.{tens, last-tens, hundreds}
-
--- the word with these bytes
-unfoldable pub word : List ℕ → ℕ
-word [] = 0
-word (d ∷ ds) = d + 256 * word ds
 
 byte : (k d v : ℕ) → d < 256 → bytes (suc k) (d + 256 * v) ≡ d ∷ bytes k v
 unfolding bytes

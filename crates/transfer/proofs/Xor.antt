@@ -12,7 +12,8 @@ use lib.Seq.{drop-cons, drop-drop, length-take-le}
 use Rattle.laws.specs.Over.{over}
 use Rattle.laws.proofs.OverLaws.{onto}
 use Rattle.frame.specs.Frame.{xorFrom, sumOf, ending}
-use Rattle.transfer.specs.Bytes.{word, together}
+use Rattle.divided.specs.Bytes.{word}
+use Rattle.transfer.specs.Bytes.{together}
 
 -- ---- the order does not matter
 

@@ -35,11 +35,6 @@ quadOf a b c d = a + 256 * (b + 256 * (c + 256 * d))
 abbrev pub quadIn : List ℕ → ℕ
 quadIn s = quadOf (getD s 0 0) (getD s 1 0) (getD s 2 0) (getD s 3 0)
 
--- any number of bytes so
-unfoldable pub word : List ℕ → ℕ
-word [] = 0
-word (d ∷ s) = d + 256 * word s
-
 -- the exclusive-or of the k lowest bytes of a word
 unfoldable pub together : ℕ → ℕ → ℕ
 together zero w = 0

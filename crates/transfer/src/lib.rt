@@ -12,13 +12,14 @@ ghost use lib.Dec.{leb};
 ghost use lib.ListN.{length};
 ghost use Rattle.laws.specs.Over.{over};
 ghost use Rattle.digits.specs.Digits.{decimal, areDigits};
+ghost use Rattle.divided.specs.Bytes.{word};
 ghost use Rattle.stop.specs.Stop.{stopText, stopIn};
 ghost use Rattle.pupil.specs.Pupil.{signByte};
 ghost use Rattle.frame.specs.Frame.{xorFrom, endingWidth};
 ghost use Rattle.frame.specs.Message.{readOf};
 ghost use Rattle.frame.specs.Contracts.{PutEnding};
 ghost use Rattle.record.specs.Forms.{frontText, middleText, backText, textForm, textLength, frontPacked, middlePacked, backPacked, packedForm, packedLength};
-ghost use Rattle.transfer.specs.Bytes.{holds, isAccepted, sixes, quadOf, quadIn, word, together, pupilIn, frontIn, middleIn, backIn, recordIn};
+ghost use Rattle.transfer.specs.Bytes.{holds, isAccepted, sixes, quadOf, quadIn, together, pupilIn, frontIn, middleIn, backIn, recordIn};
 ghost use Rattle.transfer.specs.Contracts.{PackedToText, ByRecord};
 
 // ---- what packed bytes say

@@ -6,7 +6,8 @@ use borrow.Author.Needs.{needs}
 use lib.Bits.{bitXor}
 use lib.ListN.{take, drop}
 use Rattle.frame.specs.Frame.{xorFrom}
-use Rattle.transfer.specs.Bytes.{word, together}
+use Rattle.divided.specs.Bytes.{word}
+use Rattle.transfer.specs.Bytes.{together}
 use Rattle.transfer.proofs.Xor.{xor-begun, xor-on, xor-end, part-low}
 use Rattle.transfer.proofs.xor_words.Statement.{statement}
 use Rattle.transfer.proofs.xor_words.Tie as tie
