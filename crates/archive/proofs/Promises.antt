@@ -9,6 +9,7 @@ use borrow.Author.Tests.{eqb-true, eq-eqb, ne-eqb}
 use lib.ListN.{length}
 use Rattle.laws.proofs.Tests.{told, never}
 use Rattle.refusal.specs.Answer.{Answer, accepted, refused}
+use Rattle.refusal.proofs.Answers.{accepted-is, refused-is}
 use Rattle.refusal.specs.declared.Refusal.{Refusal}
 use Rattle.refusal.specs.declared.Refusal.the-variants.{Field, Checksum}
 use Rattle.codec.specs.Codec.{textOk, spellings}
@@ -73,9 +74,6 @@ unfolding byTen
 ten-of z t = eqb-true (z % 10) 0 t
 
 -- ---- what a line that was moved was
-
-accepted-is : {A : Type 0} {a b : A} → _≡_ {A = Answer A} (accepted a) (accepted b) → a ≡ b
-accepted-is e = cc
 
 -- an old line that was moved
 record Went (m s n : List ℕ) : Type 0 where
@@ -190,9 +188,6 @@ module _ (m o : List ℕ) (e : back m ≡ accepted o) where
       old-exactly o (t .figures) .0 (old-read ∙ ap (λ (x : Record). accepted (x .figures)) (accepted-is (sym (c .read) ∙ new-exactly m t .1 k)))
 
 -- ---- the refusals
-
-refused-is : {A : Type 0} {x y : Refusal} → _≡_ {A = Answer A} (refused x) (refused y) → x ≡ y
-refused-is e = cc
 
 old-when : (m : List ℕ) (x : Refusal) → (readOf oldForm false m ≡ refused x) ↔ ReadWhen oldLowest (spellings oldForm) oldPlaces oldLineLength false m x
 old-when = refuses oldForm oldLowest Field oldLength oldPlaces old-blames old-lowest old-width .read-when false

@@ -119,7 +119,7 @@ module _ (b off : ℕ) (some : 0 < b) where
       (λ wrong. let z : Wrong ≡ Value n = rw (short, wrong) at e in never (cc)))
       (λ long. let z : Wrong ≡ Value n = rw long at e in never (cc))
 
-regroup : (v b q p r : ℕ) → v * (b * p) + (q * p + r) ≡ (v * b + q) * p + r
+pub regroup : (v b q p r : ℕ) → v * (b * p) + (q * p + r) ≡ (v * b + q) * p + r
 regroup v b q p r = omega arith
 
 -- no field overflows 64 bits

@@ -1,14 +1,14 @@
 -- The laws behind the decimal writer: what taking a part away leaves, what is counted while a power of ten is, and what each place leaves.
 -- Assumes nothing.
 use Prim.Native.Nat.{ℕ, suc, _+_, _-_, _*_, _/_, _%_, _^_, _≤_, _<_}
-use mathlib.Core.List.{List, [], _∷_}
-use mathlib.Core.Path.{_≡_, refl, sym, ap, _∙_}
+use mathlib.Core.List.{List, _∷_}
+use mathlib.Core.Path.{_≡_, sym, ap, _∙_}
 use native.Mathlib.Nat.{mod-eq-of-lt, mod-lt, mod-mod-of-dvd, dvd-mul-left, div-add-mod', div-lt-iff-lt-mul, pow-succ', one-le-pow, pow-le-pow-right}
 use native.Mathlib.Omega.{arith}
 use lib.Arith.{mod-mul, digits-div, digits-mod}
 use lib.ListN.{length, set}
 use Rattle.laws.specs.Over.{over}
-use Rattle.laws.proofs.OverLaws.{onto, sets-over}
+use Rattle.laws.proofs.OverLaws.{over-byte}
 use Rattle.digits.specs.Digits.{digits, decimal}
 use Rattle.digits.proofs.Laws.{length-digits}
 
@@ -94,5 +94,4 @@ pub turn : (d : List ℕ) (a v z n : ℕ) → a + suc z ≤ length d → v ≡ 4
 unfolding digits
 turn d a v z n room e =
     let l = length-digits 10 48 (omega arith) z n in
-    let one : a + length (v ∷ []) ≤ length d = omega arith in
-    onto d (v ∷ []) (decimal z n) a (a + 1) (sets-over d (v ∷ []) a one) refl refl (omega arith) ∙ ap (λ (w : ℕ). over d a (w ∷ decimal z n)) e
+    over-byte d (decimal z n) a v (omega arith) ∙ ap (λ (w : ℕ). over d a (w ∷ decimal z n)) e

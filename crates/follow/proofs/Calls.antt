@@ -16,7 +16,7 @@ use Rattle.capture.specs.Capture.{eventOf}
 use Rattle.capture.specs.declared.Event.{Event}
 use Rattle.capture.specs.declared.Event.the-variants.{Received, Slots, Measured, Other}
 use Rattle.refusal.specs.declared.Verdict.the-variants.{Done}
-use Rattle.telling.specs.Printed.{afterSlots}
+use Rattle.printed.specs.Printed.{afterSlots}
 use Rattle.telling.specs.Telling.{startWith, isOver, slotsLeft, Telling, tells, tellOf}
 use Rattle.telling.specs.declared.Run.{Run}
 use Rattle.follow.specs.Replay.{tellAll}

@@ -14,7 +14,7 @@ use Rattle.refusal.specs.declared.Refusal.the-variants.{Room, State}
 use Rattle.frame.specs.declared.Wrote.the-variants.{Count, Refused}
 use Rattle.capture.specs.Words.{before}
 use Rattle.capture.proofs.Promises.{forms}
-use Rattle.telling.specs.Printed.{LF}
+use Rattle.printed.specs.Printed.{LF}
 use Rattle.telling.specs.Telling.{validRun}
 use Rattle.telling.proofs.Promises.{promised}
 use Rattle.follow.specs.Follow.{textLength, validText, heldIn, joins, joinedText, validFollower, lineIn, takeOf, takeLeaves, closeOf, closeLeaves}

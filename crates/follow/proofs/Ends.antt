@@ -11,7 +11,7 @@ use Rattle.refusal.specs.declared.Refusal.the-variants.{Form}
 use Rattle.capture.specs.Capture.{eventOf}
 use Rattle.capture.specs.declared.Event.{Event}
 use Rattle.capture.specs.declared.Event.the-variants.{Received, Slots, Measured, Other}
-use Rattle.telling.specs.Printed.{refusedText}
+use Rattle.printed.specs.Printed.{refusedText}
 use Rattle.telling.specs.Telling.{isOver, Telling, tells, tellOf}
 use Rattle.telling.specs.declared.Run.{Run}
 use Rattle.telling.proofs.Laws.{slots-fit}

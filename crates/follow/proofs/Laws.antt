@@ -17,7 +17,7 @@ use Rattle.capture.specs.Capture.{eventOf}
 use Rattle.capture.specs.declared.Event.{Event}
 use Rattle.capture.proofs.Long.{first-136}
 use Rattle.telling.specs.Contracts.{RunTell}
-use Rattle.telling.specs.Printed.{LF}
+use Rattle.printed.specs.Printed.{LF}
 use Rattle.telling.specs.Telling.{validRun, toldOf, toldLeaves}
 use Rattle.telling.specs.declared.Told.{Told}
 use Rattle.follow.specs.Follow.{textLength, validText, heldIn, joins, joinedText, validFollower, followedBy, refusedState, holds, lineIn, takeOf, takeLeaves, closeOf, closeLeaves}

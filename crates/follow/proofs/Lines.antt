@@ -9,7 +9,7 @@ use lib.Dec.{eqb}
 use lib.ListN.{length, take}
 use Rattle.laws.proofs.Tests.{told, cond-yes, cond-no}
 use Rattle.capture.specs.Words.{before}
-use Rattle.telling.specs.Printed.{LF}
+use Rattle.printed.specs.Printed.{LF}
 use Rattle.follow.specs.Replay.{joinFirst, lines}
 use Rattle.follow.specs.Promises.{Unbroken, OfLines}
 

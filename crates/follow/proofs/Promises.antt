@@ -31,7 +31,7 @@ use Rattle.port.specs.Port.{unstarted, started, startOf, startVerdict, handed, 
 use Rattle.port.proofs.Promises.{leaves-new}
 use Rattle.walk.specs.Calls.{slots-once, afterAll, eventsAll}
 use Rattle.walk.proofs.Calls.{of-the-port}
-use Rattle.telling.specs.Printed.{widthOf, labelled, slotsText, afterSlots, separator, hexDigit}
+use Rattle.printed.specs.Printed.{widthOf, labelled, slotsText, afterSlots, separator, hexDigit}
 use Rattle.telling.specs.Telling.{startWith, validRun, isOver, tellOf, tells, slotsLeft}
 use Rattle.follow.specs.Replay.{lines, tellAll, replayWith, replayOf}
 use Rattle.follow.specs.Calls.{Fed, no-more, next, Replays, heldBy, callsBy, callsOf, callsIn, shown}

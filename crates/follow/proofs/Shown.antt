@@ -25,7 +25,7 @@ use Rattle.walk.proofs.BySlots.{bytes-append}
 use Rattle.capture.specs.Capture.{eventOf}
 use Rattle.capture.specs.declared.Event.{Event}
 use Rattle.capture.specs.declared.Event.the-variants.{Received, Slots, Measured, Other}
-use Rattle.telling.specs.Printed.{LF, hexDigit, slotText, separator, slotsText, widthOf, numeral, labelled, refusedText, slotsLine, verdictText}
+use Rattle.printed.specs.Printed.{LF, hexDigit, slotText, separator, slotsText, widthOf, numeral, labelled, refusedText, slotsLine, verdictText}
 use Rattle.telling.specs.Telling.{isOver, slotsLeft, Telling, tells, tellOf}
 use Rattle.telling.specs.declared.Run.{Run}
 use Rattle.follow.specs.Replay.{lines, tellAll, replayWith}

@@ -16,7 +16,7 @@ use Rattle.capture.specs.Words.{before}
 use Rattle.capture.specs.Capture.{eventOf}
 use Rattle.capture.specs.declared.Event.{Event}
 use Rattle.capture.proofs.Long.{first-136}
-use Rattle.telling.specs.Printed.{LF, slotsLine}
+use Rattle.printed.specs.Printed.{LF, slotsLine}
 use Rattle.telling.specs.Telling.{startWith, validRun, Telling, tellOf, countOf, countLeaves}
 use Rattle.telling.specs.declared.Run.{Run}
 use Rattle.telling.proofs.Promises.{each-call}

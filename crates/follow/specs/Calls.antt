@@ -12,7 +12,7 @@ use Rattle.capture.specs.Words.{before, space}
 use Rattle.capture.specs.Capture.{eventOf}
 use Rattle.capture.specs.declared.Event.{Event}
 use Rattle.capture.specs.declared.Event.the-variants.{Received, Slots, Measured, Other}
-use Rattle.telling.specs.Printed.{LF}
+use Rattle.printed.specs.Printed.{LF}
 use Rattle.telling.specs.Telling.{isOver, slotsLeft, tellOf, countOf, countLeaves}
 use Rattle.telling.specs.declared.Run.{Run}
 use Rattle.follow.specs.Follow.{beginsWith, takeOf, takeLeaves, closeOf, closeLeaves}

@@ -9,7 +9,7 @@ use Rattle.frame.specs.declared.Wrote.{Wrote}
 use Rattle.frame.specs.declared.Wrote.the-variants as wrote
 use Rattle.capture.specs.Words.{before}
 use Rattle.capture.specs.Capture.{eventOf}
-use Rattle.telling.specs.Printed.{LF}
+use Rattle.printed.specs.Printed.{LF}
 use Rattle.telling.specs.Telling.{startWith, validRun, toldOf, toldLeaves}
 use Rattle.telling.specs.declared.Run.{Run}
 use Rattle.telling.specs.declared.Told.{Told}

@@ -25,7 +25,7 @@ use Rattle.follow.specs.declared.Followed.{Followed}
 use Rattle.capture.specs.Words.{before}
 use Rattle.capture.specs.Capture.{eventOf}
 use Rattle.capture.specs.declared.Event.the-variants.{Received, Slots, Measured, Other}
-use Rattle.telling.specs.Printed.{LF, refusedText, slotsLine}
+use Rattle.printed.specs.Printed.{LF, refusedText, slotsLine}
 use Rattle.telling.specs.Telling.{startWith, validRun, isOver, tellOf, countOf, countLeaves}
 use Rattle.telling.specs.declared.Run.{Run}
 use Rattle.follow.specs.Replay.{lines, tellAll, replayWith, replayOf}

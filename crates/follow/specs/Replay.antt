@@ -4,7 +4,7 @@ use mathlib.Core.Bool.{cond}
 use mathlib.Core.List.{List, [], _∷_, _++_}
 use lib.Dec.{eqb}
 use Rattle.capture.specs.Capture.{eventOf}
-use Rattle.telling.specs.Printed.{LF, slotsLine}
+use Rattle.printed.specs.Printed.{LF, slotsLine}
 use Rattle.telling.specs.Telling.{startWith, Telling, tellOf}
 use Rattle.telling.specs.declared.Run.{Run}
 

@@ -1,16 +1,22 @@
 -- What is written where there is room: an answer, by what was accepted or refused before and by the room. Assumes nothing.
-use Prim.Native.Nat.{ℕ, _≤_, _<_}
+use Prim.Native.Nat.{ℕ, _+_, _≤_, _<_}
+use mathlib.Core.Bool.{Bool, false}
 use mathlib.Core.List.{List}
 use mathlib.Core.Logic.{_⊎_, inl, inr}
 use mathlib.Core.Path.{_≡_, refl, sym, ap, _∙_}
+use native.Mathlib.Omega.{arith}
 use borrow.Author.Tests.{leb-true, leb-false, le-leb, lt-leb}
 use lib.Dec.{leb}
-use lib.ListN.{length}
+use lib.ListN.{length, take}
+use Rattle.laws.specs.Over.{over}
+use Rattle.laws.proofs.OverLaws.{over-short}
 use Rattle.laws.proofs.Tests.{told, never}
 use Rattle.refusal.specs.Answer.{Answer, accepted, refused, unless}
 use Rattle.refusal.specs.declared.Refusal.{Refusal}
 use Rattle.refusal.specs.declared.Refusal.the-variants.{Room}
+use Rattle.frame.specs.Frame.{ending, endingWidth}
 use Rattle.frame.specs.Message.{roomFor, thenWrite}
+use Rattle.frame.proofs.Exactly.{ending-long}
 
 pub room-enough : (n len : ℕ) → n ≤ len → roomFor n len ≡ accepted n
 unfolding roomFor unless
@@ -19,6 +25,12 @@ room-enough n len h = rw (le-leb n len h)
 pub room-short : (n len : ℕ) → len < n → roomFor n len ≡ refused (Room n)
 unfolding roomFor unless
 room-short n len h = rw (lt-leb n len h)
+
+-- an ending that there is no room for
+pub no-room : (d : List ℕ) (n : ℕ) (checksum : Bool) (e : ℕ) → e ≡ endingWidth checksum → leb (n + e) (length d) ≡ false → d ≡ over d n (ending checksum (take n d))
+no-room d n checksum e p h =
+    let k : length d < n + e = leb-false _ _ h in
+    sym (over-short d (ending checksum (take n d)) n (omega (arith, ending-long checksum (take n d))))
 
 module _ {A : Type 0} (width : ℕ) where
   -- what is done was accepted, and has room

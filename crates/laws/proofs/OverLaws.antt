@@ -1,11 +1,12 @@
 -- The laws of `over`: its length, how writes one behind the other and one over another compose, and which stores come to one. Assumes nothing.
 use Prim.Native.Nat.{ℕ, _+_, _-_, _≤_, _<_}
-use mathlib.Core.List.{List, _++_, append-assoc}
+use mathlib.Core.List.{List, [], _∷_, _++_, append-assoc}
 use mathlib.Core.Path.{_≡_, refl, sym, ap, ap₂, _∙_}
+use native.Mathlib.Nat.{add-zero}
 use native.Mathlib.Omega.{arith}
 use borrow.Author.Tests.{le-leb, lt-leb, leb-true, leb-false}
 use lib.Dec.{leb}
-use lib.ListN.{length, take, drop, length-append, length-take, length-drop}
+use lib.ListN.{length, take, drop, set, length-append, length-take, length-drop, take-append-drop}
 use lib.Seq.{take-at, drop-at, take-take, take-append-le, drop-append-le, drop-append-add, drop-drop, length-take-le, sets, sets-eq, paste, take-length}
 use Rattle.laws.specs.Over.{over}
 use Rattle.laws.proofs.ListLaws.{drop-past}
@@ -57,6 +58,12 @@ drop-over d t a n fits far =
     ap (drop n) (over-fits d t a fits ∙ sym (append-assoc (take a d) t (drop k d)))
     ∙ ap (λ (i : ℕ). drop i (p ++ drop k d)) (sym e) ∙ drop-past p (drop k d) k (n - k) long ∙ drop-drop (n - k) k d ∙ ap (λ (i : ℕ). drop i d) e
 
+-- nothing left to write
+pub over-none : (d : List ℕ) (a : ℕ) → a ≤ length d → over d a [] ≡ d
+over-none d a h =
+    let room : a + length {A = ℕ} [] ≤ length d = simp add-zero h in
+    over-fits d [] a room ∙ ap (λ (x : ℕ). take a d ++ drop x d) (add-zero a) ∙ take-append-drop a d
+
 -- what was written at the start is read there
 pub take-over : (d s : List ℕ) (n : ℕ) → length s ≡ n → n ≤ length d → take n (over d 0 s) ≡ s
 take-over d s n l h =
@@ -82,6 +89,12 @@ over-next d s t a b e h =
     let g : drop (b + length t) (over d a s) ≡ drop (b + length t) d = ap (drop (b + length t)) p ∙ behind d s a b (length t) (sym e) (omega arith) in
     over-fits (over d a s) t b (rw (length-over d s a) h)
     ∙ rw (f, g, over-fits d (s ++ t) a (rw st h), st) (rw (append-assoc, append-assoc))
+
+-- one byte stored, and what is left
+pub over-byte : (d s : List ℕ) (a x : ℕ) → a + 1 + length s ≤ length d → over (set d a x) (a + 1) s ≡ over d a (x ∷ s)
+over-byte d s a x h =
+    let one : a + length (x ∷ []) ≤ length d = omega arith in
+    ap (λ (e : List ℕ). over e (a + 1) s) (sets-over d (x ∷ []) a one) ∙ over-next d (x ∷ []) s a (a + 1) refl h
 
 -- the same, of what two calls left: what a run of writers is made of
 pub onto : (d : List ℕ) {e f : List ℕ} (s t : List ℕ) (a b : ℕ) → e ≡ over d a s → f ≡ over e b t → a + length s ≡ b → b + length t ≤ length d → f ≡ over d a (s ++ t)

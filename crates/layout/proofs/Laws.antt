@@ -1,14 +1,13 @@
 -- How many bytes each part takes; and a write as a first part and what is left to write behind it, which is what a loop goes by. Assumes nothing.
 use Prim.Native.Nat.{ℕ, zero, suc, _+_, _-_, _*_, _≤_, _<_}
-use mathlib.Core.List.{List, [], _∷_, _++_}
+use mathlib.Core.List.{List, [], _∷_}
 use mathlib.Core.Path.{_≡_, refl, sym, ap, _∙_}
-use native.Mathlib.Nat.{add-zero}
 use native.Mathlib.Numerals.{add-one}
 use native.Mathlib.Omega.{arith}
-use lib.ListN.{length, take, drop, getD, set, length-append, length-drop, take-append-drop}
+use lib.ListN.{length, drop, getD, length-append, length-drop}
 use lib.Seq.{drop-cons}
 use Rattle.laws.specs.Over.{over}
-use Rattle.laws.proofs.OverLaws.{over-fits, over-short, over-next, sets-over}
+use Rattle.laws.proofs.OverLaws.{over-short, over-next}
 use Rattle.record.specs.declared.Record.{Record}
 use Rattle.fixed.specs.declared.Fixed.{Fixed}
 use Rattle.fixed.proofs.Given.{Long}
@@ -24,21 +23,9 @@ unfolding fourEach
 numbers-long [] = refl
 numbers-long (n ∷ s) = let e = numbers-long s in length-append (lowestFirst 4 n) (fourEach s) ∙ rw (number-long 4 n) (omega arith)
 
--- nothing left to write
-pub over-none : (d : List ℕ) (a : ℕ) → a ≤ length d → over d a [] ≡ d
-over-none d a h =
-    let room : a + length {A = ℕ} [] ≤ length d = simp add-zero h in
-    over-fits d [] a room ∙ ap (λ (x : ℕ). take a d ++ drop x d) (add-zero a) ∙ take-append-drop a d
-
 -- too little room for what is w long
 pub over-nothing : (d s : List ℕ) (w : ℕ) → length s ≡ w → length d < w → d ≡ over d 0 s
 over-nothing d s w l h = sym (over-short d s 0 (omega arith))
-
--- one byte stored, and what is left
-pub over-byte : (d s : List ℕ) (a x : ℕ) → a + 1 + length s ≤ length d → over (set d a x) (a + 1) s ≡ over d a (x ∷ s)
-over-byte d s a x h =
-    let one : a + length (x ∷ []) ≤ length d = omega arith in
-    ap (λ (e : List ℕ). over e (a + 1) s) (sets-over d (x ∷ []) a one) ∙ over-next d (x ∷ []) s a (a + 1) refl h
 
 -- one number written, and what is left
 pub over-number : (d s : List ℕ) (i : ℕ) → i < length s → 4 * length s ≤ length d →

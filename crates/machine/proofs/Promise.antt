@@ -15,7 +15,7 @@ use Rattle.machine.proofs.Counts.{ahead, gap, Kept, next-kept, run-kept
 use Rattle.machine.proofs.InTime.{slots-cons, act-soon, record-soon}
 use Rattle.machine.proofs.Bytes.{send-all, whole-sent}
 
-slots-append : {X : Type 0} (es es′ : List (Event X)) → slots (es ++ es′) ≡ slots es + slots es′
+pub slots-append : {X : Type 0} (es es′ : List (Event X)) → slots (es ++ es′) ≡ slots es + slots es′
 slots-append [] es′ = omega arith
 slots-append (e ∷ es) es′ = omega (arith, slots-cons e (es ++ es′), slots-cons e es, slots-append es es′)
 

@@ -18,11 +18,12 @@ use Rattle.frame.specs.declared.Wrote.the-variants as wrote
 use Rattle.line.specs.Line.{validLine}
 use Rattle.port.specs.Port.{validPort}
 use Rattle.capture.specs.declared.Event.{Event}
-use Rattle.telling.specs.Printed.{printedIn}
+use Rattle.printed.specs.Printed.{printedIn}
 use Rattle.telling.specs.Telling.{validRun, tellOf, handed, toldOf}
 use Rattle.telling.specs.declared.Run.{Run}
 use Rattle.telling.specs.declared.Told.{Told}
-use Rattle.telling.proofs.Laws.{prints-short, prints-whole, Ours, ours, is-ours}
+use Rattle.printed.proofs.Laws.{prints-short, prints-whole}
+use Rattle.telling.proofs.Laws.{Ours, ours, is-ours}
 
 -- ---- a run that is none of ours
 

@@ -24,12 +24,13 @@ use Rattle.port.proofs.Promises.{refused-same, kept-valid}
 use Rattle.port.proofs.Cases.{by-case, judged-measure}
 use Rattle.capture.specs.declared.Event.{Event}
 use Rattle.capture.specs.declared.Event.the-variants.{Received, Slots, Measured, Other}
-use Rattle.telling.specs.Printed.{slotsText, afterSlots, numeral, labelled, refusedText, slotsLine, verdictText}
+use Rattle.printed.specs.Printed.{slotsText, afterSlots, numeral, labelled, refusedText, slotsLine, verdictText}
 use Rattle.telling.specs.Telling.{lastSlot, validRun, isOver, slotsLeft, Telling, tells, tellOf}
 use Rattle.telling.specs.Promises.{OfEvents}
 use Rattle.telling.specs.declared.Run.{Run}
-use Rattle.telling.proofs.Characters.{six-at-most}
-use Rattle.telling.proofs.Laws.{length-slots, slots-fit, Ours, ours, is-ours}
+use Rattle.printed.proofs.Characters.{six-at-most}
+use Rattle.printed.proofs.Laws.{length-slots}
+use Rattle.telling.proofs.Laws.{slots-fit, Ours, ours, is-ours}
 
 -- ---- over, or not
 

@@ -1,6 +1,5 @@
 pub mod Laws
 pub mod Unique
-pub mod Characters
 pub mod Events
 pub mod Calls
 pub mod Start

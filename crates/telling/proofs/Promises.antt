@@ -1,4 +1,4 @@
--- The promises hold: characters, events, and each call by the three things that it may answer. Assumes nothing.
+-- The promises hold: events, and each call by the three things that it may answer. Assumes nothing.
 use Prim.Native.Nat.{ℕ, _≤_}
 use mathlib.Core.Bool.{true}
 use mathlib.Core.List.{List}
@@ -12,10 +12,9 @@ use Rattle.frame.specs.Message.{roomFor}
 use Rattle.frame.specs.declared.Wrote.the-variants as wrote
 use Rattle.capture.specs.declared.Event.{Event}
 use Rattle.telling.specs.declared.Run.{Run}
-use Rattle.telling.specs.Printed.{slotsLine}
+use Rattle.printed.specs.Printed.{slotsLine}
 use Rattle.telling.specs.Telling.{validRun, tellOf, toldOf, toldLeaves, countOf, countLeaves}
 use Rattle.telling.specs.Promises.{EachCall, Promised}
-use Rattle.telling.proofs.Characters.{characters}
 use Rattle.telling.proofs.Events.{of-events, tell-valid, longest}
 use Rattle.telling.proofs.Calls.{foreign, is-foreign, call-16, call-2, call-same, told-wrote, told-same}
 use Rattle.telling.proofs.Start.{start-done, start-valid, start-is, start-none}
@@ -57,4 +56,4 @@ each-call = record {
 }
 
 pub promised : Promised
-promised = record { characters = characters; of-events = of-events; each-call = each-call }
+promised = record { of-events = of-events; each-call = each-call }

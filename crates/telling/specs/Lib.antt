@@ -1,4 +1,3 @@
-pub mod Printed
 pub mod Telling
 pub mod Promises
 pub mod Contracts

@@ -15,7 +15,7 @@ use Rattle.port.specs.declared.Port.{Port}
 use Rattle.port.specs.Port.{validPort, receiveOf, measureOf, unstarted, startOf}
 use Rattle.capture.specs.declared.Event.{Event}
 use Rattle.capture.specs.declared.Event.the-variants.{Received, Slots, Measured, Other}
-use Rattle.telling.specs.Printed.{slotsText, afterSlots, refusedText, slotsLine, verdictText, printedIn}
+use Rattle.printed.specs.Printed.{slotsText, afterSlots, refusedText, slotsLine, verdictText, printedIn}
 use Rattle.telling.specs.declared.Run.{Run}
 use Rattle.telling.specs.declared.Begun.{Begun}
 use Rattle.telling.specs.declared.Told.{Told}

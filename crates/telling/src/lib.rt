@@ -3,18 +3,15 @@ use capture::Event;
 use frame::Wrote;
 use line::Line;
 use port::Port;
-use port::Sent;
 use refusal::Refusal;
 use refusal::Verdict;
 use units::Measurement;
 ghost use mathlib.Core.Path.{_≡_};
-ghost use Prim.Native.Nat.{_*_, _+_, _<_, _≤_};
+ghost use Prim.Native.Nat.{_*_, _≤_};
 ghost use lib.ListN.{length};
 ghost use Rattle.capture.specs.declared.Event.the-variants as event;
-ghost use Rattle.telling.specs.Printed.{hexDigit, slotText, separator, widthOf, labelled, verdictText, Prints};
 ghost use Rattle.telling.specs.Telling.{RunsSlots, slotsLeft, handed, tells, Tells};
 ghost use Rattle.telling.specs.Contracts.{RunStart, RunIsValid, RunIsOver, RunTell, RunCount};
-ghost use Rattle.laws.specs.Over.{over};
 
 // A run stops after so many slots.
 const LAST_SLOT: u32 = 100000;
@@ -41,39 +38,6 @@ pub struct Told {
     pub run: Run,
 }
 
-// ---- what is printed
-
-// A hex digit, in lower case.
-fn hex_digit(n: u8) -> u8
-    requires { ⌜ n < 16 ⌝ }
-    ensures { λ r. ⌜ r ≡ hexDigit n ⌝ }
-{
-    if n < 10 {
-        return b'0' + n;
-    }
-    b'a' + (n - 10)
-}
-
-// A slot: its byte in hex, or -- where it is idle.
-fn put_slot(sent: Sent, out: &mut [u8], at: usize)
-    ensures { λ _. ⌜ now (out .exit) ≡ over (now (out .entry)) at (slotText sent) ⌝ }
-{
-    match sent {
-        Sent::Byte(b) => lent::put_pair(out, at, hex_digit(b / 16), hex_digit(b % 16)),
-        _ => lent::put_pair(out, at, b'-', b'-'),
-    }
-}
-
-// What stands behind a slot: a space, or the line's end behind the last.
-fn separator(left: u32) -> u8
-    ensures { λ r. ⌜ r ≡ separator left ⌝ }
-{
-    if left == 0 {
-        return b'\n';
-    }
-    b' '
-}
-
 // Runs slots and prints each from the start of the lent memory on, three bytes a slot.
 fn put_slots(port: Port, count: u32, out: &mut [u8]) -> Port
     requires { ⌜ 3 * count ≤ length (now out) ⌝ }
@@ -86,65 +50,14 @@ fn put_slots(port: Port, count: u32, out: &mut [u8]) -> Port
         left -= 1;
         let slotted = now.slot();
         let sent = slotted.sent;
-        put_slot(sent, out, at);
-        lent::put_byte(out, at + 2, separator(left));
+        printed::put_slot(sent, out, at);
+        lent::put_byte(out, at + 2, printed::separator(left));
         let after = slotted.port;
         now = after;
         at += 3;
     }
     now
 }
-
-// How many digits a number has; none here has more than six.
-fn width_of(n: u32) -> usize
-    ensures { λ r. ⌜ r ≡ widthOf n ⌝ }
-{
-    if n < 10 {
-        return 1;
-    }
-    if n < 100 {
-        return 2;
-    }
-    if n < 1000 {
-        return 3;
-    }
-    if n < 10000 {
-        return 4;
-    }
-    if n < 100000 {
-        return 5;
-    }
-    6
-}
-
-// A label and a number, as a line.
-fn put_labelled(out: &mut [u8], label: &[u8], n: u32) -> Wrote
-    requires { ⌜ length (now label) ≤ 8 ⌝ }
-    ensures { λ r. ⌜ Prints (labelled (now (label .entry)) n) (now (out .entry)) r (now (out .exit)) ⌝ }
-{
-    let at = label.len();
-    let width = width_of(n);
-    let need = at + width + 1;
-    if out.len() < need {
-        return Wrote::Refused(Refusal::Room(need));
-    }
-    lent::put_text(out, 0, label);
-    digits::put_decimal(out, at, width, n);
-    lent::put_byte(out, at + width, b'\n');
-    Wrote::Count(need)
-}
-
-// What a verdict prints: nothing, or its refusal.
-fn put_verdict(verdict: Verdict, out: &mut [u8]) -> Wrote
-    ensures { λ r. ⌜ Prints (verdictText verdict) (now (out .entry)) r (now (out .exit)) ⌝ }
-{
-    match verdict {
-        Verdict::Done => Wrote::Count(0),
-        Verdict::Refused(r) => put_labelled(out, b"refused ", refusal::number_of(r)),
-    }
-}
-
-// ---- an event
 
 // What is handed back once it was printed: the new run, or, for want of room, the old one.
 fn handed_by(wrote: Wrote, new: Run, old: Run) -> Told
@@ -219,7 +132,7 @@ impl Run {
             slots: self.slots,
             stopped: self.stopped,
         };
-        handed_by(put_verdict(verdict, out), run, self)
+        handed_by(printed::put_verdict(verdict, out), run, self)
     }
 
     // A new measurement.
@@ -232,7 +145,7 @@ impl Run {
         let after = measured.port;
         let mut run = self;
         run.port = after;
-        handed_by(put_verdict(verdict, out), run, self)
+        handed_by(printed::put_verdict(verdict, out), run, self)
     }
 
     // How many of n slots the run has left.
@@ -278,7 +191,11 @@ impl Run {
     {
         let mut run = self;
         run.stopped = true;
-        handed_by(put_verdict(Verdict::Refused(Refusal::Form), out), run, self)
+        handed_by(
+            printed::put_verdict(Verdict::Refused(Refusal::Form), out),
+            run,
+            self,
+        )
     }
 
     // Runs an event and prints what it told: 16, then 2. After the run's end it does nothing.
@@ -312,6 +229,6 @@ impl Run {
         if !self.is_valid() {
             return Wrote::Refused(Refusal::State);
         }
-        put_labelled(out, b"slots ", self.slots)
+        printed::put_count(self.slots, out)
     }
 }

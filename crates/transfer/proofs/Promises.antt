@@ -10,6 +10,7 @@ use Rattle.laws.specs.Member.{_∈_}
 use Rattle.laws.proofs.OneAnswer.{one-outcome}
 use Rattle.laws.proofs.Tests.{never}
 use Rattle.refusal.specs.Answer.{Answer, accepted, refused}
+use Rattle.refusal.proofs.Answers.{accepted-is, refused-is}
 use Rattle.refusal.specs.declared.Refusal.{Refusal}
 use Rattle.codec.specs.Codec.{spellings}
 use Rattle.codec.specs.Places.{fieldOf}
@@ -31,14 +32,8 @@ use Rattle.packed_reader.specs.Contracts.{ReadPacked}
 use Rattle.transfer.specs.Transfer.{turned, turnedLength}
 use Rattle.transfer.specs.Contracts.{PackedToText}
 use Rattle.transfer.specs.Promises.{ThenWritten, Promised}
-use Rattle.transfer.proofs.Right.{says}
+use Rattle.packed_bytes.proofs.Right.{says}
 use Rattle.transfer.proofs.Turned.{long-is, turned-refused, turned-read, read-fits, refusal-is, written, unwritten, text-long}
-
-accepted-is : {A : Type 0} {a b : A} → _≡_ {A = Answer A} (accepted a) (accepted b) → a ≡ b
-accepted-is e = cc
-
-refused-is : {A : Type 0} {x y : Refusal} → _≡_ {A = Answer A} (refused x) (refused y) → x ≡ y
-refused-is e = cc
 
 -- a message that was turned: the record that was read, and its text
 record Went (checksum : Bool) (m l : List ℕ) : Type 0 where

@@ -1,4 +1,3 @@
-pub mod Bytes
 pub mod Transfer
 pub mod Contracts
 pub mod Promises

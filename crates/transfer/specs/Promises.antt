@@ -28,7 +28,7 @@ use Rattle.record.specs.declared.Record.{Record}
 use Rattle.record.specs.declared.RecordRead.{RecordRead}
 use Rattle.text_writer.specs.Contracts.{WriteText}
 use Rattle.packed_reader.specs.Contracts.{ReadPacked}
-use Rattle.transfer.specs.Bytes.{recordIn}
+use Rattle.packed_bytes.specs.Bytes.{recordIn}
 use Rattle.transfer.specs.Transfer.{turned, turnedLength}
 use Rattle.transfer.specs.Contracts.{ByRecord, PackedToText}
 

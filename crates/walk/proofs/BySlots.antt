@@ -2,9 +2,9 @@
 use Prim.Native.Nat.{ℕ, zero, suc, _+_}
 use mathlib.Core.List.{List, [], _∷_, _++_, append-nil, append-assoc}
 use mathlib.Core.Path.{_≡_, refl, sym, ap, ap₂, _∙_}
-use native.Mathlib.Omega.{arith}
 use lib.ListN.{replicate}
 use Rattle.machine.specs.Machine.{port, Event, Events, received, slot, given, slots}
+use Rattle.machine.proofs.Promise.{slots-append}
 use Rattle.rules.specs.Lens.{Given, measurement, lens}
 use Rattle.walk.specs.Walk.{Sound}
 use Rattle.walk.specs.Calls.{Call, receive, slots-once, measure, fill, Held, after, bytes, ran, eventsOf, afterAll, bytesAll, eventsAll, FromStart}
@@ -62,12 +62,6 @@ events-of h [] = refl
 events-of h (received b ∷ es) = ap (λ (x : Events lens). received b ∷ x) (events-of (after h (receive b)) es)
 events-of h (slot ∷ es) = ap (λ (x : Events lens). slot ∷ x) (events-of (after h slots-once) es)
 events-of h (given (measurement m) ∷ es) = ap (λ (x : Events lens). given (measurement m) ∷ x) (events-of (after h (measure m)) es)
-
-slots-append : (es fs : Events lens) → slots (es ++ fs) ≡ slots es + slots fs
-slots-append [] fs = omega arith
-slots-append (received b ∷ es) fs = slots-append es fs
-slots-append (slot ∷ es) fs = omega (arith, slots-append es fs)
-slots-append (given x ∷ es) fs = slots-append es fs
 
 slots-replicate : (k : ℕ) → slots {X = Given} (replicate k slot) ≡ k
 slots-replicate zero = refl

@@ -1,16 +1,16 @@
 -- `fill::go_on` meets its contract: as many slots as there is message and room for send the next bytes of the message. Assumes nothing.
 use Prim.Native.Nat.{ℕ, _+_, _-_, _≤_, _<_}
 use mathlib.Core.Bool.{true}
-use mathlib.Core.List.{List, [], _++_}
+use mathlib.Core.List.{[]}
 use mathlib.Core.Path.{_≡_, sym, ap, subst, _∙_}
 use native.Mathlib.Omega.{arith}
 use borrow.Author.Needs.{needs}
 use borrow.Author.Tests.{leb-true, ltb-true, ltb-false}
 use lib.Dec.{leb, ltb}
-use lib.ListN.{length, take, drop, take-append-drop}
+use lib.ListN.{length, take, drop}
 use denote.Ref.{now}
 use Rattle.laws.specs.Over.{over}
-use Rattle.laws.proofs.OverLaws.{over-fits}
+use Rattle.laws.proofs.OverLaws.{over-none}
 use Rattle.laws.proofs.Tests.{and-right, cond-yes, cond-no, told}
 use Rattle.state.specs.State.{messageLength, validMessage}
 use Rattle.port.specs.declared.Port.{Port}
@@ -43,12 +43,6 @@ least-first a b h =
     told (ltb a b)
     (λ y. cond-yes a b y)
     (λ n. let e : leastOf a b ≡ b = cond-no a b n in absurd (omega arith))
-
--- nothing is written
-over-none : (d : List ℕ) (a : ℕ) → a ≤ length d → d ≡ over d a []
-over-none d a h =
-    let e : a + 0 ≡ a = omega arith in
-    sym (over-fits d [] a (omega arith) ∙ ap (λ (k : ℕ). take a d ++ drop k d) e ∙ take-append-drop a d)
 
 long : (s : tie.Start) → length (s .args .port .message .bytes) ≡ messageLength
 long s = search needs
@@ -106,7 +100,7 @@ returns c =
       sent = [];
       sends = none-sends (s .args .port) (s .pre .0);
       fits = omega (arith, s .pre .1);
-      leaves = over-none (now (s .args .out)) (s .args .from) (s .pre .1);
+      leaves = sym (over-none (now (s .args .out)) (s .args .from) (s .pre .1));
       ended = λ h. let e = whole (c .before) (omega arith) in omega arith;
     }
 

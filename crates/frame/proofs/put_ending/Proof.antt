@@ -1,28 +1,23 @@
 -- `frame::put_ending` meets its contract: the checksum, and LF CR on from where it ended. Assumes nothing.
-use Prim.Native.Nat.{ℕ, _+_, _-_, _≤_, _<_}
+use Prim.Native.Nat.{ℕ, _+_, _-_, _≤_}
 use mathlib.Core.Bool.{Bool, true, false}
 use mathlib.Core.List.{List, [], _∷_}
 use mathlib.Core.Path.{_≡_, refl, sym, ap, _∙_}
 use native.Mathlib.Nat.{sub-zero}
 use native.Mathlib.Omega.{arith}
-use borrow.Author.Tests.{leb-true, leb-false, not-true, not-false}
+use borrow.Author.Tests.{leb-true, not-true, not-false}
 use lib.Dec.{leb}
 use lib.ListN.{length, take}
 use Rattle.laws.specs.Over.{over}
-use Rattle.laws.proofs.OverLaws.{over-short, onto}
+use Rattle.laws.proofs.OverLaws.{onto}
 use Rattle.frame.specs.Frame.{sumOf, ending, endingWidth}
 use Rattle.frame.specs.declared.Sum.{Sum}
-use Rattle.frame.proofs.Exactly.{ending-long}
+use Rattle.frame.proofs.Rooms.{no-room}
 use borrow.Author.Needs.{needs}
 use Rattle.frame.proofs.put_ending.Statement.{statement}
 use Rattle.frame.proofs.put_ending.Tie as tie
 
 module _ (d : List ℕ) (n : ℕ) where
-  no-room : (checksum : Bool) (e : ℕ) → e ≡ endingWidth checksum → leb (n + e) (length d) ≡ false → d ≡ over d n (ending checksum (take n d))
-  no-room checksum e p h =
-      let k : length d < n + e = leb-false _ _ h in
-      sym (over-short d (ending checksum (take n d)) n (omega (arith, ending-long checksum (take n d))))
-
   plain : (checksum : Bool) {l : List ℕ} → checksum ≡ false → l ≡ over d n (10 ∷ 13 ∷ []) → l ≡ over d n (ending checksum (take n d))
   unfolding ending
   plain checksum off p = rw off p

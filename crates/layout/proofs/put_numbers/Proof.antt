@@ -6,9 +6,9 @@ use native.Mathlib.Omega.{arith}
 use borrow.Author.Needs.{needs}
 use lib.ListN.{length, drop, drop-of-length-le}
 use Rattle.laws.specs.Over.{over}
-use Rattle.laws.proofs.OverLaws.{length-over}
+use Rattle.laws.proofs.OverLaws.{length-over, over-none}
 use Rattle.layout.specs.Layout.{fourEach}
-use Rattle.layout.proofs.Laws.{over-none, over-number}
+use Rattle.layout.proofs.Laws.{over-number}
 use Rattle.layout.proofs.put_numbers.Statement.{statement}
 use Rattle.layout.proofs.put_numbers.Tie as tie
 

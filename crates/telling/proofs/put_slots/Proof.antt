@@ -2,7 +2,7 @@
 use mathlib.Core.Path.{_≡_, refl}
 use native.Mathlib.Omega.{arith}
 use borrow.Author.Needs.{needs}
-use Rattle.telling.proofs.Laws.{At, at-start, as-long, one-more, all-told, all-run}
+use Rattle.printed.proofs.Laws.{At, at-start, as-long, one-more, all-told, all-run}
 use Rattle.telling.proofs.put_slots.Statement.{statement}
 use Rattle.telling.proofs.put_slots.Tie as tie
 

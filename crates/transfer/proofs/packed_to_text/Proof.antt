@@ -5,13 +5,13 @@ use native.Mathlib.Omega.{arith}
 use borrow.Author.Tests.{not-true, not-false}
 use lib.ListN.{length, take}
 use lib.Seq.{length-take-le}
-use Rattle.laws.proofs.OverLaws.{length-over}
+use Rattle.laws.specs.Over.{over}
 use Rattle.refusal.specs.Answer.{accepted}
 use Rattle.frame.specs.Message.{readOf}
-use Rattle.frame.proofs.Answers.{room-fits}
 use Rattle.record.specs.Forms.{packedForm, packedLength}
-use Rattle.transfer.specs.Bytes.{recordIn}
-use Rattle.transfer.proofs.Right.{accepted-so}
+use Rattle.packed_bytes.specs.Bytes.{recordIn}
+use Rattle.packed_bytes.proofs.Right.{accepted-so}
+use Rattle.straight.proofs.Written.{text-in}
 use Rattle.transfer.proofs.Turned.{read-long, turned-short, turned-done}
 use borrow.Author.Needs.{needs}
 use Rattle.transfer.proofs.packed_to_text.Statement.{statement}
@@ -61,18 +61,10 @@ part-put-contents-end : tie.Need-part-put-contents-end
 part-put-contents-end c = omega (arith, enough (c .before .before .before .before .before))
 
 put-contents-requires : tie.Need-put-contents-requires
-put-contents-requires c κs =
-    let n = c .before .before .before in
-    let r = n .before .before in
-    (omega (arith, room-fits _ (sym (r .room-for .ensures) ∙ n .answer .given .1)), length-take-le packedLength (r .before .before .before .before .before .args .m .now) (enough (r .before)))
+put-contents-requires c κs = search needs
 
-put-ending-requires : tie.Need-put-ending-requires
-put-ending-requires c κs =
-    let p = c .before .before .before in
-    let n = p .before .before .before .before in
-    let r = n .before .before in
-    let same = ap length (p .put-contents .ensures) ∙ length-over _ _ _ in
-    omega (arith, room-fits _ (sym (r .room-for .ensures) ∙ n .answer .given .1), same)
+end-text-requires : tie.Need-end-text-requires
+end-text-requires c κs = search needs
 
 same-length : tie.Need-same-length
 same-length c = search needs
@@ -84,7 +76,8 @@ returns-3 c =
     let n = p .before .before .before .before in
     let r = n .before .before in
     let a = r .before .before .before .before .before .args in
-    turned-done (a .checksum) (a .m .now) _ _ (right (r .before)) (sym (n .answer .given .1) ∙ r .room-for .ensures) _ refl (p .put-contents .ensures) (e .put-ending .ensures)
+    let text = p .put-contents .ensures ∙ ap (over _ 0) (text-in _ (length-take-le packedLength (a .m .now) (enough (r .before)))) in
+    turned-done (a .checksum) (a .m .now) _ _ (right (r .before)) (sym (n .answer .given .1) ∙ r .room-for .ensures) _ refl text (e .end-text .ensures)
 
 pub packed-to-text-spec : {M : Type 1} → statement M
 packed-to-text-spec =
@@ -102,6 +95,6 @@ packed-to-text-spec =
     part-put-contents-start
     part-put-contents-end
     put-contents-requires
-    put-ending-requires
+    end-text-requires
     same-length
     returns-3)

@@ -7,7 +7,7 @@ use Rattle.frame.proofs.Laid.{not-moved, moves-by}
 use Rattle.record.specs.Forms.{packedForm}
 use Rattle.record.specs.declared.RecordRead.{RecordRead}
 use Rattle.record.proofs.Told.{told-refused, told-done}
-use Rattle.transfer.specs.Bytes.{isAccepted}
+use Rattle.packed_bytes.specs.Bytes.{isAccepted}
 use Rattle.transfer.specs.Transfer.{turnedLength}
 use Rattle.transfer.proofs.Turned.{turned-refused}
 use borrow.Author.Needs.{needs}

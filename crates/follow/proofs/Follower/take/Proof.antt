@@ -9,7 +9,7 @@ use Rattle.frame.specs.declared.Wrote.the-variants.{Count}
 use Rattle.capture.specs.Words.{before}
 use Rattle.capture.specs.Capture.{eventOf}
 use Rattle.capture.proofs.Words.{before-low}
-use Rattle.telling.specs.Printed.{LF}
+use Rattle.printed.specs.Printed.{LF}
 use Rattle.follow.specs.Follow.{validFollower, lineIn, followedBy}
 use Rattle.follow.specs.declared.Text.{Text}
 use Rattle.follow.proofs.Laws.{valid-text, take-16, take-holds, take-line}

@@ -16,11 +16,8 @@ returns c =
     let v = sym (c .before .is-valid .ensures) ∙ not-true _ (c .if1 .taken) in
     record { answers = no _ v refl; leaves = no _ v refl }
 
-slice-aggregate-put-labelled : tie.Need-slice-aggregate-put-labelled
-slice-aggregate-put-labelled c = search needs
-
-put-labelled-requires : tie.Need-put-labelled-requires
-put-labelled-requires c κs = search needs
+put-count-requires : tie.Need-put-count-requires
+put-count-requires c κs = search needs
 
 same-length : tie.Need-same-length
 same-length c = search needs
@@ -29,9 +26,9 @@ returns-2 : tie.Need-returns-2
 unfolding countOf countLeaves
 returns-2 c =
     let p = c .before .before in
-    let e = p .before .before .before in
+    let e = p .before .before in
     let v = sym (e .before .is-valid .ensures) ∙ not-false _ (e .if1 .left) in
-    record { answers = yes _ v (p .put-labelled .ensures .answers); leaves = yes _ v (p .put-labelled .ensures .leaves) }
+    record { answers = yes _ v (p .put-count .ensures .answers); leaves = yes _ v (p .put-count .ensures .leaves) }
 
 pub count-spec : {M : Type 1} → statement M
 count-spec =
@@ -39,7 +36,6 @@ count-spec =
     (tie.spec
     is-valid-requires
     returns
-    slice-aggregate-put-labelled
-    put-labelled-requires
+    put-count-requires
     same-length
     returns-2)

@@ -8,9 +8,10 @@ use Rattle.laws.specs.Over.{over}
 use Rattle.frame.specs.declared.Wrote.the-variants as wrote
 use Rattle.port.specs.declared.Port.{Port}
 use Rattle.capture.specs.declared.Event.the-variants as event
-use Rattle.telling.specs.Printed.{slotsText, afterSlots}
+use Rattle.printed.specs.Printed.{slotsText, afterSlots}
 use Rattle.telling.specs.Telling.{tells}
-use Rattle.telling.proofs.Laws.{length-slots, prints-short, prints-whole, told-by, slots-fit}
+use Rattle.printed.proofs.Laws.{length-slots, prints-short, prints-whole}
+use Rattle.telling.proofs.Laws.{told-by, slots-fit}
 use borrow.Author.Needs.{needs}
 use Rattle.telling.proofs.Run.tell_slots.Statement.{statement}
 use Rattle.telling.proofs.Run.tell_slots.Tie as tie

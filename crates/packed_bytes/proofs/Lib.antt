@@ -1,0 +1,4 @@
+pub mod Lanes
+pub mod Laws
+pub mod Right
+pub mod Unique
