@@ -15,7 +15,7 @@ use Rattle.record.specs.Places.{textPlaces, packedPlaces}
 use Rattle.units.specs.Units.{byUnit, sizeIn, numberIn, inRange, conversion}
 use Rattle.archive.specs.Old.{byTen, oldZoom, oldBack, oldForm, form122}
 use Rattle.archive.specs.Archive.{added, dropped, forward, back}
-use Rattle.transfer.specs.Bytes.{sixes}
+use Rattle.packed_bytes.specs.Bytes.{sixes}
 use Rattle.transfer.specs.Transfer.{turned}
 use Rattle.bench_lens.specs.Bench.{letterOf}
 use Rattle.starred.specs.Starred.{likeR, recordR, Session, textR, packedR, Starred, Amended, OldLines, Turns}

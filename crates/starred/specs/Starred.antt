@@ -17,7 +17,7 @@ use Rattle.record.specs.declared.Record.{Record}
 use Rattle.units.specs.Units.{conversion}
 use Rattle.archive.specs.Old.{oldZoom, oldForm, form122}
 use Rattle.archive.specs.Archive.{forward, back}
-use Rattle.transfer.specs.Bytes.{recordIn}
+use Rattle.packed_bytes.specs.Bytes.{recordIn}
 use Rattle.transfer.specs.Transfer.{turned}
 use Rattle.bench_lens.specs.Bench.{letterOf, benchSettings, benchMeasurement}
 
