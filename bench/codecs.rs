@@ -244,7 +244,7 @@ fn main() {
     let new_lines = plain_lines(|fields, serial, out| plain::put_text(fields, serial, false, out));
     let texts = written(plain::put_text);
     let packed = written(plain::put_packed);
-    let fixed_messages = messages(|random| {
+    let n_messages = messages(|random| {
         let d = data(random);
         message(|out| plain::put_fixed(&d.fixed(), d.with_sum, out), d.with_sum)
     });
@@ -270,9 +270,9 @@ fn main() {
         |d, out| of_ours(heron::write_fixed(&d.fixed(), d.with_sum, out)),
         |d, out| of_plain(plain::write_fixed(&d.fixed(), d.with_sum, out)),
     );
-    reader(counted, "read_fixed", &fixed_messages, heron::read_fixed, plain::read_fixed);
-    reader(counted, "owner_start", &fixed_messages, |m, sum, _| heron::owner_start(m, sum), |m, sum, _| plain::owner_start(m, sum));
-    reader(counted, "owner_len", &fixed_messages, |m, sum, _| heron::owner_len(m, sum), |m, sum, _| plain::owner_len(m, sum));
+    reader(counted, "read_fixed", &n_messages, heron::read_fixed, plain::read_fixed);
+    reader(counted, "owner_start", &n_messages, |m, sum, _| heron::owner_start(m, sum), |m, sum, _| plain::owner_start(m, sum));
+    reader(counted, "owner_len", &n_messages, |m, sum, _| heron::owner_len(m, sum), |m, sum, _| plain::owner_len(m, sum));
     entry(
         counted,
         "convert",

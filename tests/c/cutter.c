@@ -4,7 +4,8 @@
  * cutter [SEED [CASES]]
  *
  * What must come is worked out over the whole stream, which the calls never see: where its messages end, and what the reader's
- * own entry answers to each. Piece, output and cutter or recorder lie between pages that nobody may touch (test.h). CASES is the number of random streams. Exit status 1 if something is wrong. */
+ * own entry answers to each. Piece, output and cutter or recorder lie between pages that nobody may touch (test.h). CASES is the
+ * number of random streams. Exit status 1 if something is wrong. */
 #include "test.h"
 
 #include <inttypes.h>
