@@ -83,7 +83,7 @@ static void expect_refused(int f, slice m, bool checksum, uint32_t number, uint6
 {
     (void)f; /* packed */
     for (int i = 0; i < (number == HERON_LENGTH ? 5 : number == HERON_CONTENTS ? 3 : 1); i++) {
-        size_t room = number == HERON_END ? 200 : next_room(HERON_TEXT_LEN_CHECKSUM);
+        size_t room = number == HERON_END ? 200 : next_room(checksum ? HERON_TEXT_LEN_CHECKSUM : HERON_TEXT_LEN);
         expect_transfer(m, checksum, room, number, value, NULL, what);
     }
 }
