@@ -11,15 +11,14 @@ mod plain;
 #[path = "../tests/host/random.rs"]
 mod random;
 
-use inputs::{black_box, median, record, text};
+use heron::Answer;
+use inputs::{black_box, is_counted, median, of_ours, of_plain, record, text, Outcome, Record, ROUNDS, SEED};
 use plain::{Fields, Fixed, Refusal};
 use random::Random;
 use std::process::exit;
 use std::time::{Duration, Instant};
 
-const SEED: u64 = 1;
 const INPUTS: usize = 1024;
-const ROUNDS: usize = 31;
 const ROUND: Duration = Duration::from_millis(4);
 const ROOM: usize = 128;
 const SERIAL: &[u8] = b"4050.0093";
@@ -129,21 +128,6 @@ fn reseal(m: &mut Message) {
 
 // ---- one entry
 
-type Outcome = (u32, u64);
-
-fn of_ours(answer: heron::Answer) -> Outcome {
-    (answer.number, answer.value)
-}
-
-fn of_plain(answer: Result<usize, Refusal>) -> Outcome {
-    answer.map_or_else(Refusal::number_and_value, |count| (0, count as u64))
-}
-
-enum Mode {
-    Time,
-    Count,
-}
-
 /// Nanoseconds a call over the inputs, gone through `turns` times.
 fn timed<T>(inputs: &[T], turns: usize, out: &mut [u8; ROOM], entry: &impl Fn(&T, &mut [u8]) -> Outcome) -> f64 {
     let start = Instant::now();
@@ -156,14 +140,14 @@ fn timed<T>(inputs: &[T], turns: usize, out: &mut [u8; ROOM], entry: &impl Fn(&T
 }
 
 fn entry<T>(
-    mode: &Mode,
+    counted: bool,
     name: &str,
     inputs: &Inputs<T>,
     ours: impl Fn(&T, &mut [u8]) -> Outcome,
     plain: impl Fn(&T, &mut [u8]) -> Outcome,
 ) {
     let mut out = [0; ROOM];
-    if let Mode::Count = mode {
+    if counted {
         for input in &inputs.right {
             black_box(ours(input, &mut out));
             black_box(plain(input, &mut out));
@@ -191,15 +175,42 @@ fn entry<T>(
     println!("{name} {:.1} {:.1} {:.2}", column(|r| r[0]), column(|r| r[1]), column(|r| r[1] / r[0]));
 }
 
+/// An entry that writes a record.
+fn writer(
+    counted: bool,
+    name: &str,
+    inputs: &Inputs<Record>,
+    ours: impl Fn(&Fields, &[u8], bool, &mut [u8]) -> Answer,
+    plain: impl Fn(&Fields, &[u8], bool, &mut [u8]) -> Result<usize, Refusal>,
+) {
+    entry(
+        counted,
+        name,
+        inputs,
+        |r, out| of_ours(ours(&r.fields, &r.serial, r.with_sum, out)),
+        |r, out| of_plain(plain(&r.fields, &r.serial, r.with_sum, out)),
+    );
+}
+
+/// An entry that reads a message.
+fn reader(
+    counted: bool,
+    name: &str,
+    inputs: &Inputs<Message>,
+    ours: impl Fn(&[u8], bool, &mut [u8]) -> Answer,
+    plain: impl Fn(&[u8], bool, &mut [u8]) -> Result<usize, Refusal>,
+) {
+    entry(
+        counted,
+        name,
+        inputs,
+        |m, out| of_ours(ours(&m.bytes, m.with_sum, out)),
+        |m, out| of_plain(plain(&m.bytes, m.with_sum, out)),
+    );
+}
+
 fn main() {
-    let mode = match std::env::args().nth(1).as_deref() {
-        Some("time") => Mode::Time,
-        Some("count") => Mode::Count,
-        _ => {
-            eprintln!("usage: codecs time|count");
-            exit(2);
-        }
-    };
+    let counted = is_counted("codecs");
 
     let records = inputs(record, |random, r| {
         r.fields[random.below(11)] = random.pick(&[-1000, -1, 101, 251, 1001, 4096, 10_000_000, i32::MIN]);
@@ -233,97 +244,37 @@ fn main() {
     let new_lines = plain_lines(|fields, serial, out| plain::put_text(fields, serial, false, out));
     let texts = written(plain::put_text);
     let packed = written(plain::put_packed);
-    let fixed_messages = messages(|random| {
+    let n_messages = messages(|random| {
         let d = data(random);
         message(|out| plain::put_fixed(&d.fixed(), d.with_sum, out), d.with_sum)
     });
 
+    writer(counted, "write_text", &records, heron::write_text, plain::write_text);
+    reader(counted, "read_text", &texts, heron::read_text, plain::read_text);
     entry(
-        &mode,
-        "write_text",
-        &records,
-        |r, out| of_ours(heron::write_text(&r.fields, &r.serial, r.with_sum, out)),
-        |r, out| of_plain(plain::write_text(&r.fields, &r.serial, r.with_sum, out)),
-    );
-    entry(
-        &mode,
-        "read_text",
-        &texts,
-        |m, out| of_ours(heron::read_text(&m.bytes, m.with_sum, out)),
-        |m, out| of_plain(plain::read_text(&m.bytes, m.with_sum, out)),
-    );
-    entry(
-        &mode,
+        counted,
         "old_to_new",
         &old_lines,
         |m, out| of_ours(heron::old_to_new(&m.bytes, SERIAL, out)),
         |m, out| of_plain(plain::old_to_new(&m.bytes, SERIAL, out)),
     );
+    reader(counted, "new_to_old", &new_lines, |m, _, out| heron::new_to_old(m, out), |m, _, out| plain::new_to_old(m, out));
+    writer(counted, "write_packed", &records, heron::write_packed, plain::write_packed);
+    reader(counted, "read_packed", &packed, heron::read_packed, plain::read_packed);
+    reader(counted, "packed_to_text", &packed, heron::packed_to_text, plain::packed_to_text);
+    reader(counted, "packed_to_text_by_record", &packed, heron::packed_to_text_by_record, plain::packed_to_text);
     entry(
-        &mode,
-        "new_to_old",
-        &new_lines,
-        |m, out| of_ours(heron::new_to_old(&m.bytes, out)),
-        |m, out| of_plain(plain::new_to_old(&m.bytes, out)),
-    );
-    entry(
-        &mode,
-        "write_packed",
-        &records,
-        |r, out| of_ours(heron::write_packed(&r.fields, &r.serial, r.with_sum, out)),
-        |r, out| of_plain(plain::write_packed(&r.fields, &r.serial, r.with_sum, out)),
-    );
-    entry(
-        &mode,
-        "read_packed",
-        &packed,
-        |m, out| of_ours(heron::read_packed(&m.bytes, m.with_sum, out)),
-        |m, out| of_plain(plain::read_packed(&m.bytes, m.with_sum, out)),
-    );
-    entry(
-        &mode,
-        "packed_to_text",
-        &packed,
-        |m, out| of_ours(heron::packed_to_text(&m.bytes, m.with_sum, out)),
-        |m, out| of_plain(plain::packed_to_text(&m.bytes, m.with_sum, out)),
-    );
-    entry(
-        &mode,
-        "packed_to_text_by_record",
-        &packed,
-        |m, out| of_ours(heron::packed_to_text_by_record(&m.bytes, m.with_sum, out)),
-        |m, out| of_plain(plain::packed_to_text(&m.bytes, m.with_sum, out)),
-    );
-    entry(
-        &mode,
+        counted,
         "write_fixed",
         &fixed,
         |d, out| of_ours(heron::write_fixed(&d.fixed(), d.with_sum, out)),
         |d, out| of_plain(plain::write_fixed(&d.fixed(), d.with_sum, out)),
     );
+    reader(counted, "read_fixed", &n_messages, heron::read_fixed, plain::read_fixed);
+    reader(counted, "owner_start", &n_messages, |m, sum, _| heron::owner_start(m, sum), |m, sum, _| plain::owner_start(m, sum));
+    reader(counted, "owner_len", &n_messages, |m, sum, _| heron::owner_len(m, sum), |m, sum, _| plain::owner_len(m, sum));
     entry(
-        &mode,
-        "read_fixed",
-        &fixed_messages,
-        |m, out| of_ours(heron::read_fixed(&m.bytes, m.with_sum, out)),
-        |m, out| of_plain(plain::read_fixed(&m.bytes, m.with_sum, out)),
-    );
-    entry(
-        &mode,
-        "owner_start",
-        &fixed_messages,
-        |m, _| of_ours(heron::owner_start(&m.bytes, m.with_sum)),
-        |m, _| of_plain(plain::owner_start(&m.bytes, m.with_sum)),
-    );
-    entry(
-        &mode,
-        "owner_len",
-        &fixed_messages,
-        |m, _| of_ours(heron::owner_len(&m.bytes, m.with_sum)),
-        |m, _| of_plain(plain::owner_len(&m.bytes, m.with_sum)),
-    );
-    entry(
-        &mode,
+        counted,
         "convert",
         &numbers,
         |c, _| {
@@ -337,7 +288,7 @@ fn main() {
         |c, _| plain::convert(c.field, c.n, c.unit, c.wanted).map_or_else(Refusal::number_and_value, |n| (0, n as u64)),
     );
     entry(
-        &mode,
+        counted,
         "checksum",
         &texts,
         |m, _| of_ours(heron::checksum(&m.bytes)),

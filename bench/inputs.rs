@@ -1,7 +1,12 @@
-//! What the benchmarks of the exported entries share: records in range, and what a measurement needs.
+//! What the benchmarks of the exported entries share: records in range, answers as both sides have them, and what a measurement needs.
 
-use crate::plain::Fields;
+use crate::heron::Answer;
+use crate::plain::{Fields, Refusal};
 use crate::random::Random;
+use std::process::exit;
+
+pub const SEED: u64 = 1;
+pub const ROUNDS: usize = 31;
 
 pub struct Record {
     pub fields: Fields,
@@ -23,6 +28,31 @@ pub fn record(random: &mut Random) -> Record {
         fields[9] = -fields[9];
     }
     Record { fields, serial: text(random), with_sum: random.flag() }
+}
+
+/// The number and the value that comes with it.
+pub type Outcome = (u32, u64);
+
+#[inline(always)]
+pub fn of_ours(answer: Answer) -> Outcome {
+    (answer.number, answer.value)
+}
+
+#[inline(always)]
+pub fn of_plain(answer: Result<usize, Refusal>) -> Outcome {
+    answer.map_or_else(Refusal::number_and_value, |count| (0, count as u64))
+}
+
+/// Whether the program runs to be counted, and not timed.
+pub fn is_counted(program: &str) -> bool {
+    match std::env::args().nth(1).as_deref() {
+        Some("time") => false,
+        Some("count") => true,
+        _ => {
+            eprintln!("usage: {program} time|count");
+            exit(2)
+        }
+    }
 }
 
 /// A value that the compiler must make, and knows nothing of. (`std::hint::black_box` is not in every rustc that builds this.)

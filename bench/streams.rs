@@ -19,16 +19,14 @@ mod plain_cutter;
 #[path = "../tests/host/random.rs"]
 mod random;
 
-use inputs::{median, record};
+use inputs::{is_counted, median, record, Outcome, ROUNDS, SEED};
 use plain::Fields;
 use plain_cutter::Cut;
 use random::Random;
 use std::process::exit;
 use std::time::{Duration, Instant};
 
-const SEED: u64 = 1;
 const MESSAGES: usize = 512;
-const ROUNDS: usize = 31;
 const ROUND: Duration = Duration::from_millis(4);
 const ROOM: usize = 64;
 
@@ -65,7 +63,7 @@ fn damaged(random: &mut Random, s: &Stream) -> Stream {
 // ---- the ways through a stream: `each` is told every answer
 
 #[inline(always)]
-fn read_each(s: &Stream, read: impl Fn(&[u8], bool, &mut [u8]) -> (u32, u64), mut each: impl FnMut((u32, u64), &[u8])) {
+fn read_each(s: &Stream, read: impl Fn(&[u8], bool, &mut [u8]) -> Outcome, mut each: impl FnMut(Outcome, &[u8])) {
     let mut out = [0; ROOM];
     for message in s.bytes.chunks(s.length) {
         let answer = read(message, s.with_sum, &mut out);
@@ -74,7 +72,7 @@ fn read_each(s: &Stream, read: impl Fn(&[u8], bool, &mut [u8]) -> (u32, u64), mu
 }
 
 #[inline(always)]
-fn cut_each(s: &Stream, length: usize, mut cut: impl FnMut(&[u8], bool, &mut [u8]) -> Cut, mut each: impl FnMut((u32, u64), &[u8])) {
+fn cut_each(s: &Stream, length: usize, mut cut: impl FnMut(&[u8], bool, &mut [u8]) -> Cut, mut each: impl FnMut(Outcome, &[u8])) {
     let mut out = [0; ROOM];
     for mut piece in s.bytes.chunks(length) {
         while !piece.is_empty() {
@@ -92,11 +90,11 @@ macro_rules! ways {
     ($form:ident, $fresh:expr, $read:expr, $cut:expr) => {
         pub mod $form {
             use super::*;
-            use crate::inputs::black_box;
+            use crate::inputs::{black_box, Outcome};
             use crate::{cut_each, read_each, Stream};
 
             #[inline(always)]
-            pub fn cut_up(s: &Stream, length: usize, each: impl FnMut((u32, u64), &[u8])) {
+            pub fn cut_up(s: &Stream, length: usize, each: impl FnMut(Outcome, &[u8])) {
                 let mut cutter = $fresh;
                 cut_each(s, length, |piece, with_sum, out| $cut(&mut cutter, piece, with_sum, out), each);
             }
@@ -127,12 +125,9 @@ macro_rules! ways {
 
 mod ours {
     use crate::cut_exports::{heron_cut_packed_value, heron_cut_text_value, CutValue, Cutter, FRESH};
-    use crate::heron::{self, Answer};
+    use crate::heron;
+    use crate::inputs::of_ours;
     use crate::plain_cutter::Cut;
-
-    fn told(answer: Answer) -> (u32, u64) {
-        (answer.number, answer.value)
-    }
 
     /// As the header's inline functions do it: the state copied in, and copied out.
     fn kept(cutter: &mut Cutter, made: CutValue) -> Cut {
@@ -152,34 +147,31 @@ mod ours {
     cut!(cut_text, heron_cut_text_value);
     cut!(cut_packed, heron_cut_packed_value);
 
-    ways!(text, FRESH, |m: &[u8], with_sum, out: &mut [u8]| told(heron::read_text(m, with_sum, out)), cut_text);
-    ways!(packed, FRESH, |m: &[u8], with_sum, out: &mut [u8]| told(heron::read_packed(m, with_sum, out)), cut_packed);
+    ways!(text, FRESH, |m: &[u8], with_sum, out: &mut [u8]| of_ours(heron::read_text(m, with_sum, out)), cut_text);
+    ways!(packed, FRESH, |m: &[u8], with_sum, out: &mut [u8]| of_ours(heron::read_packed(m, with_sum, out)), cut_packed);
 }
 
 mod theirs {
-    use crate::plain::{read_packed, read_text, Refusal};
+    use crate::inputs::of_plain;
+    use crate::plain::{read_packed, read_text};
     use crate::plain_cutter::{Cut, Cutter, FRESH};
 
-    fn told(answer: Result<usize, Refusal>) -> (u32, u64) {
-        answer.map_or_else(Refusal::number_and_value, |count| (0, count as u64))
-    }
-
     fn cut_text(cutter: &mut Cutter, piece: &[u8], with_sum: bool, out: &mut [u8]) -> Cut {
-        cutter.cut(piece, |m| told(read_text(m, with_sum, out)))
+        cutter.cut(piece, |m| of_plain(read_text(m, with_sum, out)))
     }
 
     fn cut_packed(cutter: &mut Cutter, piece: &[u8], with_sum: bool, out: &mut [u8]) -> Cut {
-        cutter.cut(piece, |m| told(read_packed(m, with_sum, out)))
+        cutter.cut(piece, |m| of_plain(read_packed(m, with_sum, out)))
     }
 
-    ways!(text, FRESH, |m: &[u8], with_sum, out: &mut [u8]| told(read_text(m, with_sum, out)), cut_text);
-    ways!(packed, FRESH, |m: &[u8], with_sum, out: &mut [u8]| told(read_packed(m, with_sum, out)), cut_packed);
+    ways!(text, FRESH, |m: &[u8], with_sum, out: &mut [u8]| of_plain(read_text(m, with_sum, out)), cut_text);
+    ways!(packed, FRESH, |m: &[u8], with_sum, out: &mut [u8]| of_plain(read_packed(m, with_sum, out)), cut_packed);
 }
 
 // ---- comparing and timing
 
 type Way = fn(&Stream);
-type Answers = Vec<((u32, u64), Vec<u8>)>;
+type Answers = Vec<(Outcome, Vec<u8>)>;
 
 struct Form {
     name: &'static str,
@@ -251,18 +243,11 @@ fn time(form: &Form, streams: &[Stream; 2]) {
 }
 
 fn main() {
-    let counting = match std::env::args().nth(1).as_deref() {
-        Some("time") => false,
-        Some("count") => true,
-        _ => {
-            eprintln!("usage: streams time|count");
-            exit(2);
-        }
-    };
+    let counted = is_counted("streams");
     let mut random = Random(SEED);
     for form in &FORMS {
         let streams = [false, true].map(|with_sum| stream(&mut random, form.put, with_sum));
-        if counting {
+        if counted {
             for (_, ours, theirs) in form.ways {
                 streams.iter().for_each(ours);
                 streams.iter().for_each(theirs);

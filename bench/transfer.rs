@@ -16,15 +16,12 @@ mod plain;
 #[path = "../tests/host/random.rs"]
 mod random;
 
-use inputs::{black_box, median, record};
-use plain::Refusal;
+use inputs::{black_box, median, of_ours, of_plain, record, Outcome, ROUNDS, SEED};
 use random::Random;
 use std::process::exit;
 use std::time::Instant;
 
-const SEED: u64 = 1;
 const RECORDS: usize = 100_000;
-const ROUNDS: usize = 31;
 
 /// Packed messages one after another, all with checksums or all without.
 struct Day {
@@ -48,23 +45,21 @@ fn day(setting: &'static str, with_sum: bool) -> Day {
 
 // ---- the routes
 
-fn straight(message: &[u8], with_sum: bool, out: &mut [u8]) -> (u32, u64) {
-    let answer = heron::packed_to_text(message, with_sum, out);
-    (answer.number, answer.value)
+fn straight(message: &[u8], with_sum: bool, out: &mut [u8]) -> Outcome {
+    of_ours(heron::packed_to_text(message, with_sum, out))
 }
 
-fn by_record(message: &[u8], with_sum: bool, out: &mut [u8]) -> (u32, u64) {
-    let answer = heron::packed_to_text_by_record(message, with_sum, out);
-    (answer.number, answer.value)
+fn by_record(message: &[u8], with_sum: bool, out: &mut [u8]) -> Outcome {
+    of_ours(heron::packed_to_text_by_record(message, with_sum, out))
 }
 
-fn theirs(message: &[u8], with_sum: bool, out: &mut [u8]) -> (u32, u64) {
-    plain::packed_to_text(message, with_sum, out).map_or_else(Refusal::number_and_value, |count| (0, count as u64))
+fn theirs(message: &[u8], with_sum: bool, out: &mut [u8]) -> Outcome {
+    of_plain(plain::packed_to_text(message, with_sum, out))
 }
 
 /// Goes over the day; how many of its records came out as text.
 #[inline(always)]
-fn turned(day: &Day, text: &mut [u8], route: impl Fn(&[u8], bool, &mut [u8]) -> (u32, u64)) -> usize {
+fn turned(day: &Day, text: &mut [u8], route: impl Fn(&[u8], bool, &mut [u8]) -> Outcome) -> usize {
     let (packed_length, text_length) = day.lengths;
     let places = day.packed.chunks_exact(packed_length).zip(text.chunks_exact_mut(text_length));
     places.map(|(message, out)| route(message, day.with_sum, out)).filter(|&answer| answer == (0, text_length as u64)).count()

@@ -2,34 +2,21 @@
  *
  * collect [SEED [CASES]]
  *
- * The collector lies at the end or at the start of a page between two that nobody may touch. Every byte is tried on every
+ * The collector lies between pages that nobody may touch (test.h), at the start of its own and at the end. Every byte is tried on every
  * count that is allowed and on counts past it; then CASES random lines are sent byte by byte. Exit status 1 if something
  * is wrong. */
-#define _DEFAULT_SOURCE
-#include "random.h"
-
-#include <hourheron.h>
-#include <inttypes.h>
-#include <stdio.h>
-#include <stdlib.h>
-#include <sys/mman.h>
-#include <unistd.h>
+#include "test.h"
 
 enum { RETURN = 13 };
-
-static unsigned long checks, wrong;
-static heron_line *collectors[2];
 
 static bool same_line(const heron_line *a, const heron_line *b)
 {
     return memcmp(a->bytes, b->bytes, HERON_LINE_LEN) == 0 && a->len == b->len && a->overlong == b->overlong;
 }
 
-static void check(bool holds, const char *what, const heron_line *before, uint8_t byte)
+static void check_byte(bool holds, const char *what, const heron_line *before, uint8_t byte)
 {
-    checks++;
-    if (!holds && wrong++ < 20)
-        printf("c collect: byte %02X on %zu bytes%s: %s\n", byte, before->len, before->overlong ? ", overlong" : "", what);
+    check(holds, "byte %02X on %zu bytes%s: %s", byte, before->len, before->overlong ? ", overlong" : "", what);
 }
 
 /* One byte on one collector: what must be answered and left is worked out here, not asked of the library. */
@@ -52,10 +39,10 @@ static heron_collected collect(heron_line *line, uint8_t byte)
         after.bytes[after.len++] = byte;
     }
     heron_collected got = heron_collect(line, byte);
-    check(got.number == number, "another number", &before, byte);
-    check(got.ended == ends, ends ? "no line ended" : "a line ended", &before, byte);
-    check(same_line(&got.line, &ended), "another line handed out", &before, byte);
-    check(same_line(line, &after), "another collector left", &before, byte);
+    check_byte(got.number == number, "another number", &before, byte);
+    check_byte(got.ended == ends, ends ? "no line ended" : "a line ended", &before, byte);
+    check_byte(same_line(&got.line, &ended), "another line handed out", &before, byte);
+    check_byte(same_line(line, &after), "another collector left", &before, byte);
     return got;
 }
 
@@ -84,27 +71,21 @@ static void test_line(heron_line *line, size_t len)
     }
     heron_collected got = collect(line, RETURN);
     size_t kept = len < HERON_LINE_LEN ? len : HERON_LINE_LEN;
-    check(got.line.len == kept && memcmp(got.line.bytes, sent, kept) == 0, "the ended line has other bytes", &got.line, RETURN);
-    check(got.line.overlong == (len > HERON_LINE_LEN), "the ended line is marked otherwise", &got.line, RETURN);
+    check_byte(got.line.len == kept && memcmp(got.line.bytes, sent, kept) == 0, "the ended line has other bytes", &got.line, RETURN);
+    check_byte(got.line.overlong == (len > HERON_LINE_LEN), "the ended line is marked otherwise", &got.line, RETURN);
 }
 
 int main(int argc, char **argv)
 {
-    uint64_t seed = argc > 1 ? strtoull(argv[1], NULL, 10) : 1;
-    unsigned long cases = argc > 2 ? strtoul(argv[2], NULL, 10) : 20000;
-    random_state = seed;
-    size_t page = (size_t)sysconf(_SC_PAGESIZE);
-    uint8_t *three = mmap(NULL, 3 * page, PROT_NONE, MAP_PRIVATE | MAP_ANONYMOUS, -1, 0);
-    if (three == MAP_FAILED || mprotect(three + page, page, PROT_READ | PROT_WRITE) != 0) {
-        perror("c collect: mmap");
-        return 2;
-    }
-    collectors[0] = (heron_line *)(void *)(three + page);
-    collectors[1] = (heron_line *)(void *)(three + 2 * page - sizeof(heron_line));
+    unsigned long cases = start_test("collect", argc, argv, 20000);
+    uint8_t *page = new_area(false).page;
+    heron_line *collectors[2];
+    for (int i = 0; i < 2; i++)
+        collectors[i] = (heron_line *)(void *)place(page, sizeof(heron_line), i == 0 ? AT_START : AT_END);
 
     const size_t past[] = {HERON_LINE_LEN + 1, 127, 128, 255, 256, SIZE_MAX / 2, SIZE_MAX - 1, SIZE_MAX};
-    for (int place = 0; place < 2; place++) {
-        heron_line *line = collectors[place];
+    for (int at = 0; at < 2; at++) {
+        heron_line *line = collectors[at];
         for (int overlong = 0; overlong <= 1; overlong++) {
             for (size_t len = 0; len <= HERON_LINE_LEN; len++)
                 test_count(line, len, overlong);
@@ -115,7 +96,6 @@ int main(int argc, char **argv)
             test_line(line, len);
     }
     for (unsigned long i = 0; i < cases; i++)
-        test_line(collectors[i % 2], random_next() % (HERON_LINE_LEN + 8));
-    printf("c collect: %lu checks, %lu wrong, seed %" PRIu64 "\n", checks, wrong, seed);
-    return wrong > 0;
+        test_line(collectors[i % 2], random_below(HERON_LINE_LEN + 8));
+    return end_test();
 }

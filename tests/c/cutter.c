@@ -4,94 +4,18 @@
  * cutter [SEED [CASES]]
  *
  * What must come is worked out over the whole stream, which the calls never see: where its messages end, and what the reader's
- * own entry answers to each. Piece, output and cutter or recorder lie between pages that nobody may touch, at the end of
- * their own page or at its start; a piece is read-only. CASES is the number of random streams. Exit status 1 if something is wrong. */
-#define _DEFAULT_SOURCE
-#include "random.h"
+ * own entry answers to each. Piece, output and cutter or recorder lie between pages that nobody may touch (test.h). CASES is the
+ * number of random streams. Exit status 1 if something is wrong. */
+#include "test.h"
 
-#include <hourheron.h>
 #include <inttypes.h>
-#include <stdarg.h>
-#include <stdio.h>
-#include <stdlib.h>
-#include <sys/mman.h>
-#include <unistd.h>
 
-enum { LF = 10, CR = 13, FILL = 0xEE, MOST = 1200 };
+enum { LF = 10, CR = 13, MOST = 1200 };
 
-/* ---- what is reported, and random numbers */
-
-static unsigned long checks, wrong, seen[17];
-
-__attribute__((format(printf, 2, 3))) static void check(bool holds, const char *format, ...)
-{
-    checks++;
-    if (holds || wrong++ >= 20)
-        return;
-    va_list given;
-    va_start(given, format);
-    fputs("c cutter: ", stdout);
-    vprintf(format, given);
-    putchar('\n');
-    va_end(given);
-}
-
-static size_t random_below(size_t n)
-{
-    return (size_t)(random_next() % n);
-}
-
-/* ---- memory between two pages that nobody may touch */
-
-static size_t page_size;
-static uint8_t *piece_page, *out_page, *state_page;
-static uint8_t *piece_written; /* the page of the piece seen a second time, to write to it */
-static uint8_t *filled;        /* what the page of the output holds before a call */
-static bool at_end;            /* of its page, else at its start */
-
-/* A page of a file that nobody else has, between two such pages. */
-static uint8_t *new_page(int file, int protection)
-{
-    uint8_t *three = mmap(NULL, 3 * page_size, PROT_NONE, MAP_PRIVATE | MAP_ANONYMOUS, -1, 0);
-    if (three == MAP_FAILED || ftruncate(file, (off_t)page_size) != 0 ||
-        mmap(three + page_size, page_size, protection, MAP_SHARED | MAP_FIXED, file, 0) == MAP_FAILED) {
-        perror("c cutter: mmap");
-        exit(2);
-    }
-    return three + page_size;
-}
-
-/* Where len bytes lie. With none it is null, or the place of the page that nobody may touch. */
-static uint8_t *place(uint8_t *page, size_t len)
-{
-    if (len == 0 && !at_end)
-        return NULL;
-    return at_end ? page + page_size - len : page;
-}
-
-static const uint8_t *hand_in(const uint8_t *bytes, size_t len)
-{
-    if (len > 0)
-        memcpy(place(piece_written, len), bytes, len);
-    return place(piece_page, len);
-}
-
-static uint8_t *lend(size_t len)
-{
-    return place(out_page, len);
-}
-
-/* Whether the lent memory starts with these bytes and all else on its page is as it was; then the whole page is so again. */
-static bool holds_only(uint8_t *out, const uint8_t *bytes, size_t len)
-{
-    bool starts = len == 0 || memcmp(out, bytes, len) == 0;
-    if (len > 0)
-        memset(out, FILL, len);
-    bool rest = memcmp(out_page, filled, page_size) == 0;
-    if (!rest)
-        memset(out_page, FILL, page_size);
-    return starts && rest;
-}
+static unsigned long seen[17];
+static area piece_area;
+static uint8_t *state_page;
+static edge side; /* of their pages, where all memory of a call lies */
 
 /* ---- the entries of one kind: those that read, the one that hands out the message, and the recorder */
 
@@ -113,11 +37,11 @@ static heron_cutter *cutter;
 static void begin(const calls *c)
 {
     if (c->kind == RECORDER) {
-        recorder = (heron_recorder *)(void *)place(state_page, sizeof *recorder);
+        recorder = (heron_recorder *)(void *)place(state_page, sizeof *recorder, side);
         cutter = &recorder->cutter;
         *recorder = heron_recorder_start(c->packed, c->checksum);
     } else {
-        cutter = (heron_cutter *)(void *)place(state_page, sizeof *cutter);
+        cutter = (heron_cutter *)(void *)place(state_page, sizeof *cutter, side);
         memset(cutter, 0, sizeof *cutter);
     }
 }
@@ -200,7 +124,7 @@ static void feed(const calls *c, const uint8_t *stream, size_t len, const size_t
     const char *what = kind_names[c->kind];
     size_t start = 0, at = 0;
     bool opened = false;
-    at_end = !at_end;
+    side = side == AT_END ? AT_START : AT_END;
     begin(c);
     for (size_t p = 0; p <= count;) {
         size_t until = p < count ? places[p] : len, end = at;
@@ -212,8 +136,8 @@ static void feed(const calls *c, const uint8_t *stream, size_t len, const size_t
         if (ends)
             w = answer_to(c, opened, stream + start, end + 1 - start);
 
-        const uint8_t *piece = hand_in(stream + at, until - at);
-        uint8_t *out = lend(c->room);
+        const uint8_t *piece = hand_in(piece_area, stream + at, until - at, side);
+        uint8_t *out = lend(c->room, side);
         heron_recorded got = call(c, piece, until - at, out);
         check(got.number == w.answer.number && got.value == w.answer.value,
               "%s: answered %" PRIu32 " with %" PRIu64 ", not %" PRIu32 " with %" PRIu64, what, got.number, got.value, w.answer.number,
@@ -399,9 +323,9 @@ static void test_send(void)
     for (unsigned setting = 0; setting < 8; setting++)
         for (size_t room = 0; room <= 5; room++) {
             const calls c = {RECORDER, setting / 2 % 2 == 1, setting % 2 == 1, 2};
-            at_end = setting >= 4;
+            side = setting >= 4 ? AT_END : AT_START;
             begin(&c);
-            uint8_t *out = lend(room);
+            uint8_t *out = lend(room, side);
             heron_answer got = heron_recorder_send(recorder, out, room);
             check(got.number == (room < 2 ? HERON_ROOM : HERON_DONE) && got.value == 2, "send, room %zu: answered %" PRIu32, room, got.number);
             check(holds_only(out, (const uint8_t *)"N\r", room < 2 ? 0 : 2), "send, room %zu: lent memory holds other bytes", room);
@@ -411,7 +335,7 @@ static void test_send(void)
             if (room < 2)
                 continue;
             for (size_t again = 0; again <= 3; again++) {
-                out = lend(again);
+                out = lend(again, side);
                 got = heron_recorder_send(recorder, out, again);
                 check(got.number == HERON_DONE && got.value == 0, "send again, room %zu: answered %" PRIu32, again, got.number);
                 check(holds_only(out, NULL, 0), "send again, room %zu: lent memory holds other bytes", again);
@@ -419,7 +343,7 @@ static void test_send(void)
             }
             /* a message goes on over a send */
             recorder->sent = false;
-            out = lend(2);
+            out = lend(2, side);
             call(&c, (const uint8_t *)"ab\n", 3, out);
             heron_recorder_send(recorder, out, 2);
             check(holds_only(out, (const uint8_t *)"N\r", 2), "send in a message: lent memory holds other bytes");
@@ -439,14 +363,14 @@ static void test_states(void)
                 const calls c = {k, way / 2 % 2 == 1, way % 2 == 1, way % 4 < 2 ? 160 : 0};
                 const char *const given = way % 2 == 0 ? "\n\rx" : "q";
                 size_t given_len = strlen(given), len = n <= 161 ? n : past[n - 162];
-                at_end = way >= 4;
+                side = way >= 4 ? AT_END : AT_START;
                 begin(&c);
                 for (size_t i = 0; i < sizeof cutter->bytes; i++)
                     cutter->bytes[i] = (uint8_t)('a' + random_below(26));
                 cutter->len = len;
                 heron_cutter before = *cutter;
-                uint8_t *out = lend(c.room);
-                heron_recorded got = call(&c, hand_in((const uint8_t *)given, given_len), given_len, out);
+                uint8_t *out = lend(c.room, side);
+                heron_recorded got = call(&c, hand_in(piece_area, (const uint8_t *)given, given_len, side), given_len, out);
                 if (len > 161) {
                     check(got.number == HERON_STATE && got.value == 0 && got.used == 0 && !got.ended && !got.opening,
                           "%s: a count of %zu: answered %" PRIu32, kind_names[k], len, got.number);
@@ -455,7 +379,7 @@ static void test_states(void)
                     check_recorder(&c, false, false, "16");
                     seen[HERON_STATE]++;
                     if (k == RECORDER) {
-                        out = lend(way % 3);
+                        out = lend(way % 3, side);
                         heron_answer sent = heron_recorder_send(recorder, out, way % 3);
                         check(sent.number == HERON_STATE && sent.value == 0, "send, a count of %zu: answered %" PRIu32, len, sent.number);
                         check(memcmp(cutter, &before, sizeof before) == 0 && holds_only(out, NULL, 0), "send: 16 changed something");
@@ -493,7 +417,7 @@ static void test_random(unsigned long cases)
             else
                 add_message(&s, (kind)random_below(3), random_below(2) == 1);
             if (random_below(3) == 0 && s.len > from)
-                s.bytes[from + random_below(s.len - from)] = (uint8_t)(random_below(2) == 0 ? random_next() : LF);
+                s.bytes[from + random_below((uint32_t)(s.len - from))] = (uint8_t)(random_below(2) == 0 ? random_next() : LF);
         }
         size_t places[MOST], count = 0;
         for (size_t at = 0; count < 100 && (at += random_below(60)) <= s.len;)
@@ -504,23 +428,9 @@ static void test_random(unsigned long cases)
 
 int main(int argc, char **argv)
 {
-    uint64_t seed = argc > 1 ? strtoull(argv[1], NULL, 10) : 1;
-    unsigned long cases = argc > 2 ? strtoul(argv[2], NULL, 10) : 5000;
-    random_state = seed;
-    page_size = (size_t)sysconf(_SC_PAGESIZE);
-    FILE *files[4];
-    for (int i = 0; i < 4; i++)
-        if ((files[i] = tmpfile()) == NULL) {
-            perror("c cutter: tmpfile");
-            return 2;
-        }
-    piece_page = new_page(fileno(files[0]), PROT_READ);
-    piece_written = new_page(fileno(files[0]), PROT_READ | PROT_WRITE);
-    out_page = new_page(fileno(files[1]), PROT_READ | PROT_WRITE);
-    state_page = new_page(fileno(files[2]), PROT_READ | PROT_WRITE);
-    filled = new_page(fileno(files[3]), PROT_READ | PROT_WRITE);
-    memset(filled, FILL, page_size);
-    memset(out_page, FILL, page_size);
+    unsigned long cases = start_test("cutter", argc, argv, 5000);
+    piece_area = new_area(true);
+    state_page = new_area(false).page;
 
     check(HERON_CUTTER_LEN == 160 && HERON_SEND_LEN == 2 && sizeof(heron_cutter) == 168, "the cutter has another size");
     test_short_streams();
@@ -533,6 +443,5 @@ int main(int argc, char **argv)
     static const unsigned numbers[] = {HERON_DONE, HERON_ROOM, HERON_LENGTH, HERON_CHECKSUM, HERON_CONTENTS, HERON_TOO_LONG, HERON_STATE};
     for (size_t i = 0; i < sizeof numbers / sizeof numbers[0]; i++)
         check(seen[numbers[i]] > 20, "%u came %lu times", numbers[i], seen[numbers[i]]);
-    printf("c cutter: %lu checks, %lu wrong, seed %" PRIu64 "\n", checks, wrong, seed);
-    return wrong > 0;
+    return end_test();
 }

@@ -40,7 +40,7 @@ use tally::{Seen, Tally};
 
 const LETTERS: &[u8; 4] = b"IMBb";
 /// A short capture is damaged for every so many events.
-const EVENTS_A_DAMAGE: u64 = 500;
+const EVENTS_A_DAMAGE: u64 = 1000;
 const AT_THE_LIMIT: usize = 24;
 const SESSIONS: usize = 40;
 

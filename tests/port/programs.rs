@@ -43,10 +43,19 @@ fn feed(mut stdin: ChildStdin, input: &[u8], random: &mut Random, ended: &Atomic
     }
 }
 
-/// Runs a program. Called from the project's root, where the script that runs programs stands.
+/// A program, which is for x86-64; on another processor the script runs it, from the project's root.
+fn command(program: &str) -> Command {
+    if cfg!(target_arch = "x86_64") {
+        return Command::new(program);
+    }
+    let mut script = Command::new("tools/x86-64");
+    script.args(["run", program]);
+    script
+}
+
+/// Runs a program.
 pub fn output(program: &str, letter: Option<&str>, input: &[u8], random: &mut Random) -> io::Result<Output> {
-    let mut child = Command::new("tools/x86-64")
-        .args(["run", program])
+    let mut child = command(program)
         .args(letter)
         .stdin(Stdio::piped())
         .stdout(Stdio::piped())
