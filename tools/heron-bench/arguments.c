@@ -33,14 +33,22 @@ void wrong_usage(const verb *v, const char *format, ...)
     exit(USAGE);
 }
 
+/* Why standard output could not be written, or 0 where that is not known. */
+static int output_error;
+
+bool flushed(void)
+{
+    if (fflush(stdout) != 0 && output_error == 0)
+        output_error = errno;
+    return !ferror(stdout);
+}
+
 int printed(int status)
 {
-    errno = 0;
-    if (fflush(stdout) != 0 || ferror(stdout)) {
-        say(NULL, "standard output cannot be written%s%s", errno == 0 ? "" : ": ", errno == 0 ? "" : strerror(errno));
-        return USAGE;
-    }
-    return status;
+    if (flushed())
+        return status;
+    say(NULL, "standard output cannot be written%s%s", output_error == 0 ? "" : ": ", output_error == 0 ? "" : strerror(output_error));
+    return USAGE;
 }
 
 /* ---- the help */

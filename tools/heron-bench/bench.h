@@ -78,7 +78,10 @@ bool parse_i32(const char *text, int32_t *number);
 /* What the two of them take. */
 #define WHOLE_NUMBER "a whole number of at most 32 bits"
 
-/* Flushes standard output: the status, or USAGE where what was printed could not be written. */
+/* Flushes standard output; returns whether all that was printed could be written. */
+bool flushed(void);
+
+/* The same at the end: the status, or USAGE where it could not, which is told. */
 int printed(int status);
 
 /* ---- names */

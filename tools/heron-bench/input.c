@@ -48,7 +48,7 @@ bool take_inputs(const arguments *a, input_taker take, void *with)
 /* As much as there is, without waiting for a full piece: the count of bytes, 0 at the end, or -1 with errno. */
 static ssize_t next_piece(FILE *in, uint8_t *piece, size_t len)
 {
-    fflush(stdout);
+    flushed();
     ssize_t came;
     do
         came = read(fileno(in), piece, len);

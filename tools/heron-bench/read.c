@@ -132,7 +132,7 @@ static bool read_lines(FILE *in, reading *r)
             printf("%s: line %llu: ", r->where, number);
             take(&m, r->o, r->c);
         }
-        fflush(stdout);
+        flushed();
     }
     free(line.bytes);
     free(m.bytes);

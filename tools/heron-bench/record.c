@@ -304,7 +304,7 @@ static bool record(recording *r)
         print_count(r);
         if (!take_piece(r, r->started || told ? -1 : left, &came))
             return false;
-        if (fflush(stdout) != 0) /* nobody reads on */
+        if (!flushed()) /* nobody reads on */
             ended = 1;
     }
     return true;
