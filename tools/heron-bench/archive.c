@@ -20,7 +20,7 @@ static heron_answer back(const part *p, const void *with, uint8_t *out, size_t o
     return heron_new_to_old(p->bytes, (size_t)p->len, out, out_len);
 }
 
-static int archive(arguments *a)
+static int archive_command(arguments *a)
 {
     const char *serial = NULL; /* not given */
     while (next_option(a) != 0)
@@ -60,5 +60,5 @@ const verb archive_verb = {
     .example = "heron-bench archive forward --serial 4050.0093 OLD >NEW",
     .done = "all done",
     .refused = "some refused or left out",
-    .run = archive,
+    .run = archive_command,
 };

@@ -27,7 +27,7 @@ static void add_words(buffer *b, const arguments *a, bool hex)
     }
 }
 
-static int checksum(arguments *a)
+static int checksum_command(arguments *a)
 {
     bool hex = false;
     while (next_option(a) != 0)
@@ -65,5 +65,5 @@ const verb checksum_verb = {
     .example = "heron-bench checksum 'B 4.34'",
     .done = "done",
     .refused = NULL,
-    .run = checksum,
+    .run = checksum_command,
 };

@@ -16,7 +16,7 @@ static uint32_t parse_field(const verb *v, const char *word)
     return field;
 }
 
-static int convert(arguments *a)
+static int convert_command(arguments *a)
 {
     next_option(a);
     if (a->count != 4)
@@ -50,5 +50,5 @@ const verb convert_verb = {
     .example = "heron-bench convert pupil -25 I M",
     .done = "done",
     .refused = "refused",
-    .run = convert,
+    .run = convert_command,
 };

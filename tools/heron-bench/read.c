@@ -164,7 +164,7 @@ static wishes take_options(arguments *a)
     return o;
 }
 
-static int read_messages(arguments *a)
+static int read_command(arguments *a)
 {
     wishes o = take_options(a);
     counts c = {0, 0, 0};
@@ -190,5 +190,5 @@ const verb read_verb = {
     .example = "heron-bench read --unit I DAY",
     .done = "all accepted",
     .refused = "some refused",
-    .run = read_messages,
+    .run = read_command,
 };

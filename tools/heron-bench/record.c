@@ -344,7 +344,7 @@ static void take_options(recording *r, arguments *a)
     r->where = a->words[0];
 }
 
-static int record_device(arguments *a)
+static int record_command(arguments *a)
 {
     recording r = {.device = -1, .recorder = heron_recorder_first()};
     struct termios old;
@@ -379,5 +379,5 @@ const verb record_verb = {
     .example = "heron-bench record --count 10 --unit I /dev/ttyUSB0",
     .done = "all accepted",
     .refused = "some refused",
-    .run = record_device,
+    .run = record_command,
 };

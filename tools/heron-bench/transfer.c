@@ -13,7 +13,7 @@ static heron_answer to_text(const part *p, const void *with, uint8_t *out, size_
     return heron_packed_to_text(p->bytes, (size_t)p->len, *checksum, out, out_len);
 }
 
-static int transfer(arguments *a)
+static int transfer_command(arguments *a)
 {
     bool plain = false, checksum = false;
     for (char letter; (letter = next_option(a)) != 0;)
@@ -40,5 +40,5 @@ const verb transfer_verb = {
     .example = "heron-bench transfer --plain DAY >LINES",
     .done = "all done",
     .refused = "some refused or left out",
-    .run = transfer,
+    .run = transfer_command,
 };

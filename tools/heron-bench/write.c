@@ -97,7 +97,7 @@ static heron_answer make_fixed(const values *v, bool checksum, uint8_t *out, siz
                              strlen(version), checksum, out, out_len);
 }
 
-static int write_message(arguments *a)
+static int write_command(arguments *a)
 {
     bool checksum = false, hex = false;
     for (char letter; (letter = next_option(a)) != 0;)
@@ -145,5 +145,5 @@ const verb write_verb = {
                "             maximum=50 letter=I transmission=95 version=4.34 | heron-bench read",
     .done = "written",
     .refused = "refused",
-    .run = write_message,
+    .run = write_command,
 };
