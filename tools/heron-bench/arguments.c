@@ -7,17 +7,18 @@
 
 /* ---- what is said */
 
-static void say_start(const verb *v)
+/* A line without its end. */
+static void say_list(const verb *v, const char *format, va_list list)
 {
     fprintf(stderr, "heron-bench%s%s: ", v == NULL ? "" : " ", v == NULL ? "" : v->name);
+    vfprintf(stderr, format, list);
 }
 
 void say(const verb *v, const char *format, ...)
 {
     va_list list;
-    say_start(v);
     va_start(list, format);
-    vfprintf(stderr, format, list);
+    say_list(v, format, list);
     va_end(list);
     fputc('\n', stderr);
 }
@@ -25,9 +26,8 @@ void say(const verb *v, const char *format, ...)
 void wrong_usage(const verb *v, const char *format, ...)
 {
     va_list list;
-    say_start(v);
     va_start(list, format);
-    vfprintf(stderr, format, list);
+    say_list(v, format, list);
     va_end(list);
     fprintf(stderr, "; try 'heron-bench%s%s --help'\n", v == NULL ? "" : " ", v == NULL ? "" : v->name);
     exit(USAGE);
@@ -47,7 +47,8 @@ int printed(int status)
 {
     if (flushed())
         return status;
-    say(NULL, "standard output cannot be written%s%s", output_error == 0 ? "" : ": ", output_error == 0 ? "" : strerror(output_error));
+    const char *why = output_error == 0 ? NULL : strerror(output_error);
+    say(NULL, "standard output cannot be written%s%s", why == NULL ? "" : ": ", why == NULL ? "" : why);
     return USAGE;
 }
 
@@ -171,7 +172,7 @@ form given_form(const arguments *a, int count)
 {
     form f = form_called(a->value);
     if ((int)f >= count)
-        wrong_usage(a->verb, "--form takes %s, not '%s'", count == NO_FORM ? "text, packed or fixed" : "text or packed", a->value);
+        wrong_usage(a->verb, "--form takes %s, not '%s'", count > FIXED ? "text, packed or fixed" : "text or packed", a->value);
     return f;
 }
 
