@@ -72,9 +72,10 @@ cannot_write() { # FILE WORD...
     shift
     endless | bench "$command" "$@" >/dev/full 2>told || status=$?
     [ "$status" -eq 2 ] || fail "a full disk: exit status $status, not 2"
-    grep -qx 'heron-bench: standard output cannot be written' told || fail "a full disk is not told"
+    grep -qx 'heron-bench: standard output cannot be written: No space left on device' told || fail "a full disk is not told"
     endless | { bench "$command" "$@" 2>told || echo $? >status; } | head -n 1 >one
     [ "$(cat status)" = 2 ] || fail "a broken pipe: exit status $(cat status), not 2"
+    grep -qx 'heron-bench: standard output cannot be written: Broken pipe' told || fail "a broken pipe is not told"
 }
 endless() { while cat "$file" 2>/dev/null; do :; done; }
 

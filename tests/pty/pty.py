@@ -49,6 +49,7 @@ def main():
             exchanges = talked(link)
             record.on_the_lens(sys.argv[1], link, opened)
             record.scripted(sys.argv[1])
+            record.typed(sys.argv[1])
             os.killpg(server.pid, signal.SIGINT)
             if server.wait(20) != 0:
                 raise Wrong(f"lens-pty: Ctrl-C ended it with status {server.returncode}")

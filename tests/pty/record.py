@@ -123,7 +123,7 @@ def on_the_lens(bench, link, opened):
     run.run.stdout.close()
     run.run.stdout = None
     status, _, err = run.end()
-    if status != 2 or not re.fullmatch(r"heron-bench: standard output cannot be written\nrecords: \d+, refused: 0\n", err):
+    if status != 2 or not re.fullmatch(r"heron-bench: standard output cannot be written: Broken pipe\nrecords: \d+, refused: 0\n", err):
         raise Wrong(f"a reader that goes away: status {status}, then {err!r}")
     idle(link, opened)
 
@@ -185,12 +185,24 @@ def scripted(bench):
 
     run = Record(bench, link)
     talk.awaits(b"N\r", "the recorder's first bytes")
-    said = f"heron-bench record: {link}: no fixed data after 5 seconds; still waiting\n"
+    said = f"heron-bench record: {link}: no fixed data after 5 seconds; still waiting: is the lens on, and on this line? Ctrl-C ends it\n"
     if not select.select([run.run.stderr], [], [], PATIENCE)[0]:
         raise Wrong(f"{run.words}: says nothing of a silent lens")
     run.run.send_signal(signal.SIGTERM)
     run.ends(0, "", said + "records: 0, refused: 0\n")
     talk.quiet("after a recording of nothing")
+
+    # with a closed standard output no byte of what is printed goes to the lens
+    closed = subprocess.Popen(["sh", "-c", 'exec "$@" >&-', "sh", os.path.join(ROOT, "tools", "x86-64"), "run", bench, "record", link],
+                              stderr=subprocess.PIPE)
+    talk.awaits(b"N\r", "the recorder's first bytes")
+    talk.send(FIXED)
+    talk.awaits(b"C\rH\r", "nothing but commands")
+    talk.send(b"!\n\r!\n\r")
+    said = closed.communicate(timeout=PATIENCE)[1].decode()
+    if closed.returncode != 2 or said != "heron-bench: standard output cannot be written: Bad file descriptor\nrecords: 0, refused: 0\n":
+        raise Wrong(f"a closed output: status {closed.returncode}, {said!r}")
+    talk.quiet("after a recording to nowhere")
 
     run = Record(bench, link)
     talk.awaits(b"N\r", "the recorder's first bytes")
@@ -201,3 +213,16 @@ def scripted(bench):
     gone = [f"heron-bench record: {link}: {how}\nrecords: 0, refused: 0\n" for how in ("has ended", "cannot be read: Input/output error")]
     if status != 2 or err not in gone:
         raise Wrong(f"a device that ends: status {status}, {err!r}")
+
+
+def typed(bench):
+    """A terminal as standard input: that it is read is said."""
+    ours, theirs = os.openpty()
+    run = subprocess.Popen([os.path.join(ROOT, "tools", "x86-64"), "run", bench, "checksum"], stdin=theirs, stdout=subprocess.PIPE,
+                           stderr=subprocess.PIPE)
+    os.write(ours, b"B 4.34\x04\x04")
+    came = *(text.decode() for text in run.communicate(timeout=PATIENCE)), run.returncode
+    os.close(ours)
+    os.close(theirs)
+    if came != ("H@\n", "heron-bench checksum: reads what is typed; Ctrl-D ends it\n", 0):
+        raise Wrong(f"a terminal as input: {came!r}")

@@ -1,7 +1,6 @@
-/* Names, bytes and the command line: what every subcommand uses. */
+/* Names, refusals and bytes: what every verb uses. */
 #include "bench.h"
 
-#include <errno.h>
 #include <inttypes.h>
 #include <stdlib.h>
 
@@ -107,6 +106,20 @@ void print_counts(FILE *to, const counts *c)
     fprintf(to, "messages: %lu, refused: %lu\n", c->messages, c->refused);
 }
 
+void say_other(const verb *v, const counts *c, const char *hint)
+{
+    if (2 * c->other > c->messages)
+        say(v, "%lu of the refused %s %s", c->other, c->other == 1 ? "is" : "are", hint);
+}
+
+int refuse(const verb *v, form f, bool checksum, heron_answer refused)
+{
+    fprintf(stderr, "heron-bench %s: ", v->name);
+    print_refusal(stderr, f, checksum, refused);
+    say(v, "'heron-bench %s --help' has the ranges", v->name);
+    return REFUSED;
+}
+
 /* ---- bytes */
 
 void buffer_add(buffer *b, int byte)
@@ -165,56 +178,4 @@ void print_quoted(const uint8_t *bytes, size_t len)
         else
             putchar(bytes[i]);
     putchar('"');
-}
-
-/* ---- the command line */
-
-bool is_option(const char *word, const char *brief, const char *full)
-{
-    return strcmp(word, brief) == 0 || strcmp(word, full) == 0;
-}
-
-int usage_error(const char *command, const char *wrong, const char *word)
-{
-    fprintf(stderr, "heron-bench %s: %s%s%s; try 'heron-bench %s --help'\n", command, wrong, word == NULL ? "" : " ",
-            word == NULL ? "" : word, command);
-    return USAGE;
-}
-
-/* A whole number with nothing before or behind it. */
-static bool parse_number(const char *text, long long least, long long most, long long *number)
-{
-    const char *digits = text[0] == '-' || text[0] == '+' ? text + 1 : text;
-    if (*digits == '\0' || digits[strspn(digits, "0123456789")] != '\0')
-        return false;
-    errno = 0;
-    *number = strtoll(text, NULL, 10);
-    return errno == 0 && *number >= least && *number <= most;
-}
-
-bool parse_u32(const char *text, uint32_t *number)
-{
-    long long n;
-    if (!parse_number(text, 0, UINT32_MAX, &n))
-        return false;
-    *number = (uint32_t)n;
-    return true;
-}
-
-bool parse_i32(const char *text, int32_t *number)
-{
-    long long n;
-    if (!parse_number(text, INT32_MIN, INT32_MAX, &n))
-        return false;
-    *number = (int32_t)n;
-    return true;
-}
-
-int printed(int status)
-{
-    if (fflush(stdout) != 0 || ferror(stdout)) {
-        fputs("heron-bench: standard output cannot be written\n", stderr);
-        return USAGE;
-    }
-    return status;
 }

@@ -7,34 +7,39 @@
 
 /* ---- the inputs */
 
-static bool take_input(const char *command, FILE *in, const char *where, input_taker take, void *with)
+static bool take_input(const verb *v, FILE *in, const char *where, input_taker take, void *with)
 {
     bool whole = take(in, where, with);
     if (!whole)
-        fprintf(stderr, "heron-bench %s: %s: cannot be read: %s\n", command, where, strerror(errno));
+        say(v, "%s: cannot be read: %s", where, strerror(errno));
     return whole;
 }
 
-static bool take_file(const char *command, const char *path, input_taker take, void *with)
+bool take_stdin(const verb *v, input_taker take, void *with)
+{
+    if (isatty(STDIN_FILENO) == 1)
+        say(v, "reads what is typed; Ctrl-D ends it");
+    return take_input(v, stdin, "stdin", take, with);
+}
+
+static bool take_file(const verb *v, const char *path, input_taker take, void *with)
 {
     FILE *in = fopen(path, "rb");
     if (in == NULL) {
-        fprintf(stderr, "heron-bench %s: %s: %s\n", command, path, strerror(errno));
+        say(v, "%s: %s", path, strerror(errno));
         return false;
     }
-    bool whole = take_input(command, in, path, take, with);
+    bool whole = take_input(v, in, path, take, with);
     fclose(in);
     return whole;
 }
 
-bool take_inputs(const char *command, char **paths, int count, input_taker take, void *with)
+bool take_inputs(const arguments *a, input_taker take, void *with)
 {
-    bool whole = true;
-    if (count == 0)
-        whole = take_input(command, stdin, "stdin", take, with);
-    for (int i = 0; i < count; i++)
-        whole = (strcmp(paths[i], "-") == 0 ? take_input(command, stdin, "stdin", take, with)
-                                            : take_file(command, paths[i], take, with)) && whole;
+    bool whole = a->count > 0 || take_stdin(a->verb, take, with);
+    for (int i = 0; i < a->count; i++)
+        whole = (strcmp(a->words[i], "-") == 0 ? take_stdin(a->verb, take, with)
+                                               : take_file(a->verb, a->words[i], take, with)) && whole;
     return whole;
 }
 
@@ -43,7 +48,7 @@ bool take_inputs(const char *command, char **paths, int count, input_taker take,
 /* As much as there is, without waiting for a full piece: the count of bytes, 0 at the end, or -1 with errno. */
 static ssize_t next_piece(FILE *in, uint8_t *piece, size_t len)
 {
-    fflush(stdout);
+    flushed();
     ssize_t came;
     do
         came = read(fileno(in), piece, len);

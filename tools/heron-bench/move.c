@@ -5,6 +5,7 @@
 #include <signal.h>
 
 typedef struct {
+    const verb *verb;
     const move *move;
     const char *where;
     counts counts;
@@ -14,7 +15,7 @@ typedef struct {
 /* The start of a line on standard error that says what is not written. */
 static void print_place(const moving *m, const part *p)
 {
-    fprintf(stderr, "heron-bench %s: %s: byte %llu: ", m->move->command, m->where, p->start);
+    fprintf(stderr, "heron-bench %s: %s: byte %llu: ", m->verb->name, m->where, p->start);
 }
 
 /* Writes a message in the other form and counts it, or says why it is not written. */
@@ -30,6 +31,7 @@ static void take_message(moving *m, const part *p)
         return;
     }
     m->counts.refused++;
+    m->counts.other += answer.number == HERON_LENGTH && answer.value == m->move->other;
     print_place(m, p);
     if (p->bytes == NULL)
         report_too_long(stderr, p->len);
@@ -46,6 +48,8 @@ static void take_part(const part *p, void *with)
         m->left_out = true;
         print_place(m, p);
         report_tail(stderr, p->len);
+        if (p->start == 0)
+            say(m->verb, "%s: there is no LF CR in it; 'man heron-bench' has help under LINE ENDS", m->where);
     }
 }
 
@@ -56,14 +60,15 @@ static bool move_stream(FILE *in, const char *where, void *with)
     return cut_stream(in, take_part, m);
 }
 
-int move_inputs(const move *how, char **paths, int count)
+int move_inputs(const move *how, const arguments *a)
 {
     static char room[65536];
-    moving m = {.move = how};
+    moving m = {.verb = a->verb, .move = how};
     setvbuf(stdout, room, _IOFBF, sizeof room);
     signal(SIGPIPE, SIG_IGN); /* nobody reads what is written: it ends as where it cannot be written */
-    bool whole = take_inputs(how->command, paths, count, move_stream, &m);
+    bool whole = take_inputs(a, move_stream, &m);
     int status = printed(!whole ? USAGE : m.counts.refused > 0 || m.left_out ? REFUSED : DONE);
+    say_other(a->verb, &m.counts, how->hint);
     print_counts(stderr, &m.counts);
     return status;
 }

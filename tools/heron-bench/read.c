@@ -3,32 +3,22 @@
 
 #include <stdlib.h>
 
-static const char help[] =
-    "usage: heron-bench read [OPTION...] [FILE...]\n"
-    "\n"
-    "Reads messages from the files, or from standard input, and says of each where it stands, what it is and what it\n"
-    "holds. A refused message is shown with the reason, and the next one is read. The last line counts them.\n"
-    "\n"
-    "  -c, --checksum     the messages carry checksums (without it they do not)\n"
-    "  -f, --form FORM    each message is text, packed or fixed; without it the first byte tells:\n"
-    "                     D a text record, d a packed record, N fixed data, others a short reply\n"
-    "  -u, --unit UNIT    the display unit of distances and pupil: I (0.1 inch) or M (1 mm)\n"
-    "  -h, --help         prints this\n"
-    "\n"
-    "The input is a stream of bytes in which a message ends at LF CR; bytes behind the last one are no message. Or\n"
-    "  -l, --lines        a message a line, without its LF CR; a CR at either end of a line is left out\n"
-    "  -x, --hex          a message a line, whole with its LF CR, in hex: 64 40 40 4C ... 0A 0D\n"
-    "Empty lines are skipped.\n"
-    "\n"
-    "A short reply is known by its first bytes; of the rest only its ending and its checksum are judged.\n"
-    "Exit status: 0 every message accepted, 1 some refused, 2 wrong usage or a file that cannot be read.\n";
+static const option options[] = {
+    {'c', "checksum", NULL, "the messages carry checksums"},
+    {'f', "form", "FORM", "each message is text, packed or fixed; without it the first\n"
+                          "byte tells: D text, d packed, N fixed, others a short reply"},
+    {'u', "unit", "UNIT", UNIT_SAYS},
+    {'l', "lines", NULL, "a message is a line, without its LF CR"},
+    {'x', "hex", NULL, "a message is a line in hex, with its LF CR: 64 40 ... 0A 0D"},
+    HELP_AND_END,
+};
 
 typedef struct {
     bool checksum;
     form form; /* NO_FORM: the first byte tells */
     enum { STREAM, LINES, HEX } input;
     char unit; /* I, M, or 0 for not given */
-} options;
+} wishes;
 
 /* ---- a message */
 
@@ -42,7 +32,7 @@ static form form_told_by(const buffer *m)
     }
 }
 
-static bool report(const buffer *m, const options *o)
+static bool report(const buffer *m, const wishes *o, counts *c)
 {
     static heron_answer (*const readers[NO_FORM])(const uint8_t *, size_t, bool, uint8_t *, size_t) = {
         heron_read_text, heron_read_packed, heron_read_fixed};
@@ -51,14 +41,15 @@ static bool report(const buffer *m, const options *o)
         return report_reply(m, o->checksum);
     uint8_t contents[CONTENTS_BYTES];
     heron_answer answer = readers[f](m->bytes, m->len, o->checksum, contents, sizeof contents);
+    c->other += answer.number == HERON_LENGTH && answer.value == forms[f].length[!o->checksum];
     return report_form(m, f, o->checksum, answer, contents, o->unit);
 }
 
 /* Says of a message what it is and counts it; shows one that was refused. */
-static void take(const buffer *m, const options *o, counts *c)
+static void take(const buffer *m, const wishes *o, counts *c)
 {
     c->messages++;
-    if (!report(m, o)) {
+    if (!report(m, o, c)) {
         c->refused++;
         print_bytes(m->bytes, m->len);
     }
@@ -68,7 +59,8 @@ static void take(const buffer *m, const options *o, counts *c)
 
 /* What a part of the input is taken with. */
 typedef struct {
-    const options *o;
+    const verb *verb;
+    const wishes *o;
     counts *c;
     const char *where;
 } reading;
@@ -81,6 +73,8 @@ static void take_part(const part *p, void *with)
         report_tail(stdout, p->len);
         if (p->bytes != NULL)
             print_bytes(p->bytes, (size_t)p->len);
+        if (p->start == 0)
+            say(r->verb, "%s: there is no LF CR in it; a message a line is read by --lines, in hex by --hex", r->where);
     } else if (p->bytes != NULL) {
         take(&(buffer){p->bytes, (size_t)p->len, (size_t)p->len}, r->o, r->c);
     } else {
@@ -122,7 +116,7 @@ static bool read_lines(FILE *in, reading *r)
 {
     buffer line = {NULL, 0, 0};
     buffer m = {NULL, 0, 0};
-    for (unsigned long long number = 1; next_line(in, &line); number++) {
+    for (unsigned long long number = 1; !ferror(stdout) && next_line(in, &line); number++) {
         m.len = 0;
         long wrong = -1;
         if (r->o->input == HEX)
@@ -138,7 +132,7 @@ static bool read_lines(FILE *in, reading *r)
             printf("%s: line %llu: ", r->where, number);
             take(&m, r->o, r->c);
         }
-        fflush(stdout);
+        flushed();
     }
     free(line.bytes);
     free(m.bytes);
@@ -152,38 +146,49 @@ static bool read_input(FILE *in, const char *where, void *with)
     return (r->o->input == STREAM ? read_stream : read_lines)(in, r);
 }
 
-int read_command(int argc, char **argv)
+static wishes take_options(arguments *a)
 {
-    options o = {false, NO_FORM, STREAM, 0};
-    int i = 1;
-    for (; i < argc && argv[i][0] == '-' && argv[i][1] != '\0'; i++) {
-        if (is_option(argv[i], "-h", "--help")) {
-            fputs(help, stdout);
-            return printed(DONE);
-        } else if (is_option(argv[i], "-c", "--checksum")) {
-            o.checksum = true;
-        } else if (is_option(argv[i], "-l", "--lines")) {
-            o.input = LINES;
-        } else if (is_option(argv[i], "-x", "--hex")) {
-            o.input = HEX;
-        } else if (is_option(argv[i], "-f", "--form")) {
-            o.form = i + 1 < argc ? form_called(argv[++i]) : NO_FORM;
-            if (o.form == NO_FORM)
-                return usage_error("read", "--form takes text, packed or fixed", NULL);
-        } else if (is_option(argv[i], "-u", "--unit")) {
-            if (i + 1 == argc || (strcmp(argv[i + 1], "I") != 0 && strcmp(argv[i + 1], "M") != 0))
-                return usage_error("read", "--unit takes I or M", NULL);
-            o.unit = argv[++i][0];
-        } else {
-            return usage_error("read", "there is no option", argv[i]);
+    wishes o = {false, NO_FORM, STREAM, 0};
+    bool lines = false, hex = false;
+    for (char letter; (letter = next_option(a)) != 0;)
+        switch (letter) {
+        case 'c': o.checksum = true; break;
+        case 'f': o.form = given_form(a, NO_FORM); break;
+        case 'u': o.unit = given_unit(a); break;
+        case 'l': lines = true; break;
+        case 'x': hex = true; break;
         }
-    }
-
-    counts c = {0, 0};
-    reading r = {&o, &c, NULL};
-    bool whole = take_inputs("read", argv + i, argc - i, read_input, &r);
-    print_counts(stdout, &c);
-    if (!whole)
-        return printed(USAGE);
-    return printed(c.refused > 0 ? REFUSED : DONE);
+    if (lines && hex)
+        wrong_usage(a->verb, "takes one of --lines and --hex, not both");
+    o.input = lines ? LINES : hex ? HEX : STREAM;
+    return o;
 }
+
+static int read_command(arguments *a)
+{
+    wishes o = take_options(a);
+    counts c = {0, 0, 0};
+    reading r = {a->verb, &o, &c, NULL};
+    bool whole = take_inputs(a, read_input, &r);
+    print_counts(stdout, &c);
+    int status = printed(!whole ? USAGE : c.refused > 0 ? REFUSED : DONE);
+    say_other(a->verb, &c, o.checksum ? AS_PLAIN ": try it without --checksum" : AS_CHECKSUM ": try --checksum");
+    return status;
+}
+
+const verb read_verb = {
+    .name = "read",
+    .purpose = "says what each message of a stream or a file is and holds",
+    .usage = "[OPTION...] [FILE...]",
+    .does = "Says of each message where it stands, what it is and what it holds.\n",
+    .options = options,
+    .more = STREAM_MORE "Bytes behind the last one are shown and are no\n"
+            "message. With --lines and --hex empty lines are skipped, and with --lines a CR\n"
+            "at either end of a line. A refused message is shown with the reason, and the\n"
+            "next one is read. Of a short reply the ending and the checksum are judged.\n"
+            "The last line counts the messages.\n",
+    .example = "heron-bench read --unit I DAY",
+    .done = "all accepted",
+    .refused = "some refused",
+    .run = read_command,
+};

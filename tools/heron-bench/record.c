@@ -7,27 +7,16 @@
 #include <fcntl.h>
 #include <signal.h>
 #include <sys/select.h>
-#include <sys/stat.h>
 #include <termios.h>
 #include <time.h>
 #include <unistd.h>
 
-static const char help[] =
-    "usage: heron-bench record [OPTION...] DEVICE\n"
-    "\n"
-    "Asks the lens on a serial device for its fixed data, starts continuous sending, and says of each message that comes\n"
-    "where it stands, what it is and what it holds, as 'heron-bench read' does. Ctrl-C ends it: continuous sending is\n"
-    "stopped and the device left as it was. How many records were accepted and how many messages refused is said on\n"
-    "standard error, at the end and on a terminal meanwhile.\n"
-    "\n"
-    "  -n, --count N      ends after N accepted records\n"
-    "  -f, --form FORM    the records are text or packed (without it text)\n"
-    "  -u, --unit UNIT    the display unit of distances and pupil: I (0.1 inch) or M (1 mm)\n"
-    "  -h, --help         prints this\n"
-    "\n"
-    "The device is set to 115200 bits a second, 8 bits, no parity, one stop bit. Messages carry no checksums.\n"
-    "A sign of the lens (<, !, ?) is shown; it is no record and is not refused.\n"
-    "Exit status: 0 every message accepted, 1 some refused, 2 wrong usage, or a device that ended or cannot be used.\n";
+static const option options[] = {
+    {'n', "count", "N", "ends after N accepted records"},
+    {'f', "form", "FORM", "the records are text or packed; without it text"},
+    {'u', "unit", "UNIT", UNIT_SAYS},
+    HELP_AND_END,
+};
 
 /* In milliseconds: how long the fixed data may take, a byte may stay unsent and the end may last; how long a line is
  * silent that is done; how long a count stays on a terminal. */
@@ -109,25 +98,34 @@ static bool wait_for(int device, wanted_side side, long long milliseconds)
 
 static bool say_wrong(const char *where, const char *wrong)
 {
-    fprintf(stderr, "heron-bench record: %s: %s\n", where, wrong);
+    say(&record_verb, "%s: %s", where, wrong);
     return false;
 }
 
-/* Opens the device; a terminal is made raw, 8N1, 115200, and *old gets its settings. What has come already stays. */
-static bool open_device(recording *r, struct termios *old, bool *terminal)
+/* What may be done where a device cannot be opened. */
+static const char *advice(int error)
+{
+    switch (error) {
+    case ENOENT: return "; is it plugged in? 'ls /dev/tty*' shows what there is";
+    case EACCES: return "; 'ls -l' shows the group that may use it: be in it";
+    case EBUSY: return "; another program has it: end that";
+    default: return "";
+    }
+}
+
+/* Opens the device and makes it raw, 8N1, 115200; *old gets its settings. What has come already stays. */
+static bool open_device(recording *r, struct termios *old)
 {
     /* a port that waits for a carrier is opened all the same */
     r->device = open(r->where, O_RDWR | O_NOCTTY | O_NONBLOCK);
-    struct stat is;
-    if (r->device < 0 || fstat(r->device, &is) != 0)
-        return say_wrong(r->where, strerror(errno));
-    if (!S_ISCHR(is.st_mode)) /* the lens's commands would be written into a file */
-        return say_wrong(r->where, "is no serial device");
+    if (r->device < 0) {
+        say(&record_verb, "%s: %s%s", r->where, strerror(errno), advice(errno));
+        return false;
+    }
     if (r->device >= FD_SETSIZE)
         return say_wrong(r->where, strerror(EMFILE));
-    *terminal = isatty(r->device) == 1;
-    if (!*terminal)
-        return true;
+    if (isatty(r->device) != 1) /* the lens's commands would be written into a file */
+        return say_wrong(r->where, "is no serial device; a recorded stream is read by 'heron-bench read'");
     if (tcgetattr(r->device, old) != 0)
         return say_wrong(r->where, strerror(errno));
     struct termios raw = *old;
@@ -154,7 +152,7 @@ static bool send_bytes(recording *r, const void *bytes, size_t len)
             at += gone;
             len -= (size_t)gone;
         } else if (errno != EINTR && (errno != EAGAIN || !wait_for(r->device, WRITABLE, PATIENCE))) {
-            fprintf(stderr, "heron-bench record: %s: cannot be written: %s\n", r->where, strerror(errno));
+            say(&record_verb, "%s: cannot be written: %s", r->where, strerror(errno));
             return false;
         }
     }
@@ -170,7 +168,7 @@ static ssize_t next_piece(recording *r, uint8_t *piece, size_t len)
     if (came < 0 && (errno == EAGAIN || errno == EINTR))
         return 0;
     if (came < 0)
-        fprintf(stderr, "heron-bench record: %s: cannot be read: %s\n", r->where, strerror(errno));
+        say(&record_verb, "%s: cannot be read: %s", r->where, strerror(errno));
     else
         say_wrong(r->where, "has ended");
     return -1;
@@ -299,13 +297,14 @@ static bool record(recording *r)
     while (!is_done(r)) {
         long long left = until - now();
         if (!r->started && !told && left <= 0) {
-            fprintf(stderr, "heron-bench record: %s: no fixed data after %d seconds; still waiting\n", r->where, PATIENCE / 1000);
+            say(&record_verb, "%s: no fixed data after %d seconds; still waiting: is the lens on, and on this line? Ctrl-C ends it",
+                r->where, PATIENCE / 1000);
             told = true;
         }
         print_count(r);
         if (!take_piece(r, r->started || told ? -1 : left, &came))
             return false;
-        if (fflush(stdout) != 0) /* nobody reads on */
+        if (!flushed()) /* nobody reads on */
             ended = 1;
     }
     return true;
@@ -325,50 +324,60 @@ static bool stop(recording *r)
     return r->answered || say_wrong(r->where, "no answer to H: it may still be sending");
 }
 
-int record_command(int argc, char **argv)
+static void take_options(recording *r, arguments *a)
+{
+    uint32_t count = 0;
+    for (char letter; (letter = next_option(a)) != 0;)
+        switch (letter) {
+        case 'n':
+            if (!parse_u32(a->value, &count) || count == 0)
+                wrong_usage(a->verb, "--count takes " WHOLE_NUMBER " from 1 on, not '%s'", a->value);
+            r->wanted = count;
+            break;
+        case 'f': r->recorder = heron_recorder_start(given_form(a, FIXED) == PACKED, r->recorder.setup.checksum); break;
+        case 'u': r->unit = given_unit(a); break;
+        }
+    if (a->count == 0)
+        wrong_usage(a->verb, "say the DEVICE, such as /dev/ttyUSB0");
+    if (a->count > 1)
+        wrong_usage(a->verb, "takes one DEVICE, not '%s' too", a->words[1]);
+    r->where = a->words[0];
+}
+
+static int record_command(arguments *a)
 {
     recording r = {.device = -1, .recorder = heron_recorder_first()};
-    int i = 1;
-    for (; i < argc && argv[i][0] == '-'; i++) {
-        if (is_option(argv[i], "-h", "--help")) {
-            fputs(help, stdout);
-            return printed(DONE);
-        } else if (is_option(argv[i], "-n", "--count")) {
-            uint32_t count = 0;
-            if (i + 1 == argc || !parse_u32(argv[++i], &count) || count == 0)
-                return usage_error("record", "--count takes a whole number from 1 on, of at most 32 bits", NULL);
-            r.wanted = count;
-        } else if (is_option(argv[i], "-f", "--form")) {
-            form f = i + 1 < argc ? form_called(argv[++i]) : NO_FORM;
-            if (f != TEXT && f != PACKED)
-                return usage_error("record", "--form takes text or packed", NULL);
-            r.recorder = heron_recorder_start(f == PACKED, r.recorder.setup.checksum);
-        } else if (is_option(argv[i], "-u", "--unit")) {
-            if (i + 1 == argc || (strcmp(argv[i + 1], "I") != 0 && strcmp(argv[i + 1], "M") != 0))
-                return usage_error("record", "--unit takes I or M", NULL);
-            r.unit = argv[++i][0];
-        } else {
-            return usage_error("record", "there is no option", argv[i]);
-        }
-    }
-    if (i + 1 != argc)
-        return usage_error("record", "takes one DEVICE", NULL);
-    r.where = argv[i];
-
     struct termios old;
-    bool terminal = false;
+    take_options(&r, a);
     catch_signals();
-    bool opened = open_device(&r, &old, &terminal);
+    bool opened = open_device(&r, &old);
     bool whole = opened && record(&r) && stop(&r);
-    if (opened && terminal)
+    if (opened)
         tcsetattr(r.device, TCSADRAIN, &old);
     if (r.device >= 0)
         close(r.device);
-    if (opened) {
-        clear_count(&r);
-        int status = printed(!whole ? USAGE : r.refused > 0 ? REFUSED : DONE);
-        fprintf(stderr, "records: %llu, refused: %llu\n", r.records, r.refused);
-        return status;
-    }
-    return USAGE;
+    if (!opened)
+        return USAGE;
+    clear_count(&r);
+    int status = printed(!whole ? USAGE : r.refused > 0 ? REFUSED : DONE);
+    fprintf(stderr, "records: %llu, refused: %llu\n", r.records, r.refused);
+    return status;
 }
+
+const verb record_verb = {
+    .name = "record",
+    .purpose = "asks the lens on a serial device for its records and shows each",
+    .usage = "[OPTION...] DEVICE",
+    .does = "Asks the lens on a serial device for its records and shows each.\n",
+    .options = options,
+    .more = "Sets the device to 115200 bits a second, 8N1, asks for the fixed data (N), then\n"
+            "starts continuous sending and prints each message as 'heron-bench read' does.\n"
+            "Ctrl-C ends it: sending is stopped and the device is left as it was. The count\n"
+            "of records and of refused messages is on standard error, last at the end.\n"
+            "Messages carry no checksums. A sign of the lens (<, !, ?) is shown; it is no\n"
+            "record and is not refused.\n",
+    .example = "heron-bench record --count 10 --unit I /dev/ttyUSB0",
+    .done = "all accepted",
+    .refused = "some refused",
+    .run = record_command,
+};
