@@ -2,8 +2,4 @@ pub mod Given
 pub mod Answers
 pub mod Cuts
 pub mod Takes
-pub mod Tells
-pub mod Stream
-pub mod Recording
-pub mod Promises
 pub mod Unique

@@ -2,5 +2,3 @@ pub mod Host
 pub mod Cuts
 pub mod Takes
 pub mod Contracts
-pub mod Stream
-pub mod Promises

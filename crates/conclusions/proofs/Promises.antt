@@ -31,13 +31,13 @@ use Rattle.transfer.proofs.Promises.{promised as transfer}
 use Rattle.cut_reader.proofs.Promises.{promised as cut}
 use Rattle.layout.specs.Promises.{Unpacks}
 use Rattle.layout.proofs.Promises.{promised as laid}
 use Rattle.hourheron.specs.Host.{answerOf, conversionOf, Writes, Lays, askedOf}
-use Rattle.hourheron.specs.Promises.{Reads, Written, Moved, Converted, Asked, Promised}
+use Rattle.conclusions.specs.Promises.{Reads, Written, Moved, Converted, Asked, Promised}
 use Rattle.hourheron.specs.declared.Answer as host
 use Rattle.hourheron.specs.declared.Conversion.{Conversion}
-use Rattle.hourheron.proofs.Recording.{sends, takes}
-use Rattle.hourheron.proofs.Stream.{cut-reader, hands-message}
-use Rattle.hourheron.proofs.Tells.{answers, conversions, was-done, was-refused, no-refusal, done-with, refused-with, tells}
+use Rattle.conclusions.proofs.Recording.{sends, takes}
+use Rattle.conclusions.proofs.Stream.{cut-reader, hands-message}
+use Rattle.conclusions.proofs.Tells.{answers, conversions, was-done, was-refused, no-refusal, done-with, refused-with, tells}
 
 -- ---- the readers
 

@@ -26,12 +26,12 @@ use Rattle.cutter.proofs.Promises.{promised as cuts}
 use Rattle.cut_reader.specs.Promises as cut-reads
 use Rattle.cut_reader.proofs.Cut.{said-only}
 use Rattle.layout.specs.Promises.{Unpacks}
 use Rattle.hourheron.specs.Host.{answerOf}
 use Rattle.hourheron.specs.Cuts.{Cuts, CutsRead}
-use Rattle.hourheron.specs.Stream.{OfPiece, answerIn, CutCall, ReadsCut, HandsMessage}
+use Rattle.conclusions.specs.Stream.{OfPiece, answerIn, CutCall, ReadsCut, HandsMessage}
 use Rattle.hourheron.specs.declared.Answer as host
 use Rattle.hourheron.specs.declared.CutValue.{CutValue}
-use Rattle.hourheron.proofs.Tells.{answers, was-refused}
+use Rattle.conclusions.proofs.Tells.{answers, was-refused}
 
 -- ---- the numbers that a refusal has alone, and 2
 

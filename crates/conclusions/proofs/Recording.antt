@@ -21,13 +21,13 @@ use Rattle.recorder.specs.Recorder.{readingOf, toldAs, takenBy, takeOf, sendOf}
 use Rattle.recorder.specs.declared.Recorder.{Recorder}
 use Rattle.recorder.proofs.Promises.{promised as recorded}
 use Rattle.layout.proofs.Promises.{promised as laid}
 use Rattle.hourheron.specs.Contracts.{HeronReadText, HeronReadPacked, HeronReadFixed, HeronRecorderSendValue, HeronRecorderTakeValue}
 use Rattle.hourheron.specs.Host.{answerOf, answerTo}
-use Rattle.hourheron.specs.Stream.{answerOut, TakeCall, SendCall}
+use Rattle.conclusions.specs.Stream.{answerOut, TakeCall, SendCall}
 use Rattle.hourheron.specs.Takes.{readingBy, layIn, layLeft}
 use Rattle.hourheron.specs.declared.SendValue.{SendValue}
 use Rattle.hourheron.specs.declared.TakeValue.{TakeValue}
-use Rattle.hourheron.proofs.Stream.{Alone, alone-16, Makes, makes-read, of-piece}
+use Rattle.conclusions.proofs.Stream.{Alone, alone-16, Makes, makes-read, of-piece}
 
 -- ---- a piece
 

@@ -1,4 +1,4 @@
--- What a C host may conclude from a call of each entry: of the relations that the entries' contracts name (Contracts.antt). Statements only:
+-- What a C host may conclude from a call of each entry: of the relations that the entries' contracts name (Contracts.antt of crate hourheron). Statements only:
 -- proofs/Promises.antt proves each. `rule` is 0 where contents are sendable; `low`, `plain` and `places` are as in demand 2.
 use Prim.Native.Nat.{ℕ, _+_, _*_, _≤_, _<_}
 use mathlib.Core.Bool.{Bool}
@@ -38,14 +38,14 @@ use Rattle.recorder.specs.Recorder.{firstSetup, startOf}
 use Rattle.recorder.specs.declared.Recorder.{Recorder}
 use Rattle.layout.specs.Layout.{recordBytes, recordWidth, fixedBytes, fixedWidth}
 use Rattle.layout.specs.Unpack.{unpackRecord, unpackFixed}
 use Rattle.hourheron.specs.Host.{answerOf, conversionOf}
 use Rattle.hourheron.specs.Contracts.{HeronConvert, HeronChecksum, HeronWriteText, HeronWritePacked, HeronReadText, HeronReadPacked, HeronOldToNew, HeronNewToOld, HeronPackedToText, HeronPackedToTextByRecord, HeronWriteFixed, HeronReadFixed, HeronOwnerStart, HeronOwnerLen, HeronCollect, HeronCutTextValue, HeronCutPackedValue, HeronCutFixedValue, HeronCutMessageValue, HeronRecorderFirst, HeronRecorderStart, HeronRecorderSendValue, HeronRecorderTakeValue}
-use Rattle.hourheron.specs.Stream.{CutReader, HandsMessage, SendCall, TakeCall}
+use Rattle.conclusions.specs.Stream.{CutReader, HandsMessage, SendCall, TakeCall}
 use Rattle.hourheron.specs.declared.Conversion.{Conversion}
 use Rattle.hourheron.specs.declared.Answer as host
 use Rattle.hourheron.specs.declared.CutValue.{CutValue}
 use Rattle.hourheron.specs.declared.SendValue.{SendValue}
 use Rattle.hourheron.specs.declared.TakeValue.{TakeValue}
 
 -- ---- the answers
 

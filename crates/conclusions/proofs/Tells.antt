@@ -6,8 +6,8 @@ use Rattle.refusal.specs.Answer.{Answer, accepted, refused}
 use Rattle.refusal.specs.Refusal.{numberOf, valueOf}
 use Rattle.refusal.specs.declared.Refusal.{Refusal}
 use Rattle.refusal.proofs.Promises.{numbers}
 use Rattle.hourheron.specs.Host.{answerOf, conversionOf}
-use Rattle.hourheron.specs.Promises.{Tells}
+use Rattle.conclusions.specs.Promises.{Tells}
 
 -- handed over are 0 and what was done, or a refusal's number and value
 pub record Hands {A R : Type 0} (handed : Answer A → R) (number beside : R → ℕ) (value : R → A) : Type 0 where

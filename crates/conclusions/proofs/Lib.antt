@@ -1,0 +1,4 @@
+pub mod Tells
+pub mod Stream
+pub mod Recording
+pub mod Promises
