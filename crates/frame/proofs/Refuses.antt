@@ -12,7 +12,8 @@ use lib.Dec.{eqb, leb}
 use lib.ListN.{length, take, length-append, take-append-drop}
 use lib.Seq.{take-at}
 use Rattle.laws.proofs.Tests.{told, never}
-use Rattle.refusal.specs.Answer.{Answer, accepted, refused, unless}
+use Rattle.refusal.proofs.Answers.{refused-is}
+use Rattle.refusal.specs.Answer.{accepted, refused, unless}
 use Rattle.refusal.specs.declared.Refusal.{Refusal}
 use Rattle.refusal.specs.declared.Refusal.the-variants.{Field, Room, Length, End, Checksum, Contents, Dropped, Setting, TooLong, Form, Lost, State}
 use Rattle.refusal.specs.declared.Verdict.the-variants.{Done, Refused}
@@ -80,9 +81,6 @@ module _ (checksum : Bool) (w : ℕ) (m : List ℕ) where
 
 -- ---- a reader
 
-refused-one : {A : Type 0} {p q : Refusal} → _≡_ {A = Answer A} (refused p) (refused q) → p ≡ q
-refused-one e = cc
-
 module _ {A : Type 0} (c : Codec A) (rule : A → ℕ) (w : ℕ) (places : List Place) (u : Blames c 0 places) (same : (a : A) → c .lowest a ≡ rule a) (wide : c .width ≡ w) where
   by-rule : (s : List ℕ) (i : ℕ) → FirstWrong (c .lowest) (spellings c) places s i → FirstWrong rule (spellings c) places s i
   by-rule s i f =
@@ -134,7 +132,7 @@ module _ {A : Type 0} (c : Codec A) (rule : A → ℕ) (w : ℕ) (places : List 
     -- a reader that refuses has a case
     module _ (r : Refusal) (e : readOf c checksum m ≡ refused r) where
       so : (q : Refusal) → When q → When r
-      so q h = subst When (refused-one (sym (read-given q h) ∙ e)) h
+      so q h = subst When (refused-is (sym (read-given q h) ∙ e)) h
 
       -- the message is framed right: the contents are wrong
       then-contents : (l : length m ≡ w + endingWidth checksum) (f : m ≡ framed checksum (take w m)) (q : Got A) → c .parse (take w m) ≡ q → When r
@@ -193,8 +191,8 @@ module _ {A : Type 0} (c : Codec A) (rule : A → ℕ) (low : ℕ → Refusal) (
   write-refused : (r : Refusal) → writeOf c low checksum a out ≡ refused r → WriteWhen rule low plain checksum a out r
   write-refused r e =
       written
-      (λ h. inl (h, refused-one (sym e ∙ out-of-range h)))
-      (λ h k. inr (h, k, refused-one (sym e ∙ too-short h k)))
+      (λ h. inl (h, refused-is (sym e ∙ out-of-range h)))
+      (λ h k. inr (h, k, refused-is (sym e ∙ too-short h k)))
       (λ h k. let z : refused r ≡ accepted n = sym e ∙ fits h k in never (cc))
 
   refused-write : (r : Refusal) → WriteWhen rule low plain checksum a out r → writeOf c low checksum a out ≡ refused r

@@ -10,7 +10,7 @@ use lib.ListN.{length, take, drop, getD, length-drop}
 use lib.Seq.{drop-drop, length-take-le}
 use Rattle.laws.proofs.ListLaws.{drop-of-take}
 use Rattle.laws.proofs.Tests.{told, never}
-use Rattle.refusal.specs.Answer.{Answer, accepted, refused}
+use Rattle.refusal.specs.Answer.{Answer, accepted, refused, isAccepted}
 use Rattle.refusal.specs.declared.Verdict.{Verdict}
 use Rattle.refusal.specs.declared.Verdict.the-variants.{Done, Refused}
 use Rattle.digits.specs.Digits.{areDigits, only, readGroups}
@@ -30,7 +30,7 @@ use Rattle.serial.proofs.Field.{serial-read}
 use Rattle.gather.specs.Gather.{recordWith}
 use Rattle.gather.proofs.Laws.{record-parts}
 use Rattle.packed_reader.proofs.Parts.{front-width, middle-width, back-width, front-parts, middle-parts, back-parts}
-use Rattle.packed_bytes.specs.Bytes.{holds, isAccepted, sixes, pupilIn, frontIn, middleIn, backIn, recordIn}
+use Rattle.packed_bytes.specs.Bytes.{holds, sixes, pupilIn, frontIn, middleIn, backIn, recordIn}
 use Rattle.packed_bytes.proofs.Laws.{groups-only}
 
 -- ---- a test, and what is found where it is passed

@@ -5,21 +5,16 @@ use mathlib.Core.List.{List, [], _∷_}
 use lib.Dec.{eqb, leb}
 use lib.IntN.{ℤ}
 use lib.ListN.{length, take, drop, getD}
-use Rattle.refusal.specs.Answer.{Answer, accepted, refused}
 use Rattle.sign.specs.Sign.{signedOf}
 use Rattle.codec.specs.Codec.{Got, got, wrong}
 use Rattle.stop.specs.Stop.{stopIn}
 use Rattle.record.specs.Forms.{Front, Middle, Back, recordOf}
 use Rattle.record.specs.declared.Record.{Record}
 
--- a value was found; a message was accepted
+-- a value was found
 abbrev pub holds : {A : Type 0} → Got A → Bool
 holds (got a) = true
 holds (wrong i) = false
-
-abbrev pub isAccepted : {A : Type 0} → Answer A → Bool
-isAccepted (accepted a) = true
-isAccepted (refused x) = false
 
 -- the low six bits of each byte, as one number
 unfoldable pub sixes : List ℕ → ℕ

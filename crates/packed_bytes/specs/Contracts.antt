@@ -3,11 +3,12 @@ use Prim.Native.Nat.{ℕ, _<_}
 use mathlib.Core.Bool.{Bool}
 use mathlib.Core.List.{List}
 use mathlib.Core.Path.{_≡_}
+use Rattle.refusal.specs.Answer.{isAccepted}
 use Rattle.stop.specs.Stop.{stopIn}
 use Rattle.pupil.specs.Pupil.{signByte}
 use Rattle.frame.specs.Message.{readOf}
 use Rattle.record.specs.Forms.{packedForm}
-use Rattle.packed_bytes.specs.Bytes.{isAccepted, number, quadOf, pupilIn}
+use Rattle.packed_bytes.specs.Bytes.{number, quadOf, pupilIn}
 
 abbrev pub Quad : ℕ → ℕ → ℕ → ℕ → ℕ → Type 0
 Quad a b c d r = (r ≡ quadOf a b c d) × (r < 4294967296)

@@ -5,6 +5,7 @@ use mathlib.Core.Logic.{⊎-elim}
 use mathlib.Core.Path.{_≡_, refl, sym, ap, subst, _∙_}
 use lib.Dec.{eqb}
 use Rattle.laws.proofs.Tests.{and-right, and-both, cond-no, told, by, never}
+use Rattle.refusal.specs.Answer.{isDone}
 use Rattle.refusal.specs.declared.Refusal.{Refusal}
 use Rattle.refusal.specs.declared.Refusal.the-variants as refusal
 use Rattle.refusal.specs.declared.Verdict.{Verdict}
@@ -17,7 +18,7 @@ use Rattle.units.specs.declared.Measurement.{Measurement}
 use Rattle.line.specs.declared.Line.{Line}
 use Rattle.line.specs.Line.{blank, ends, joined, validLine}
 use Rattle.line.proofs.Laws.{blank-valid, joined-valid}
-use Rattle.state.specs.State.{isDone, validModes, validMessage, validSource}
+use Rattle.state.specs.State.{validModes, validMessage, validSource}
 use Rattle.rules.specs.Lens.{measured}
 use Rattle.rules.proofs.Kept.{measured-valid}
 use Rattle.port.specs.declared.Port.{Port}

@@ -5,14 +5,14 @@ use mathlib.Core.List.{List}
 use mathlib.Core.Path.{_≡_, refl, ap, _∙_}
 use lib.ListN.{length, take}
 use Rattle.laws.proofs.Tests.{told, cond-yes, cond-no}
-use Rattle.refusal.specs.Answer.{Answer, accepted, refused}
+use Rattle.refusal.specs.Answer.{Answer, accepted, refused, isAccepted, isDone}
 use Rattle.frame.specs.Message.{readOf}
 use Rattle.fixed.specs.Fixed.{fixedRead}
 use Rattle.fixed.specs.Form.{fixedForm}
 use Rattle.fixed.specs.declared.Fixed.{Fixed}
 use Rattle.cutter.specs.Cutter.{cutterLength, fresh, validCutter, Cutting, thenRead, endIn}
 use Rattle.cutter.proofs.Cuts.{cut-none, cut-some}
-use Rattle.recorder.specs.Recorder.{asFixed, asRecord, formOf, readingOf, isAccepted, opensBy, toldAs, cutOn, takenBy, takeOf, readingIn, holdOf, isDone}
+use Rattle.recorder.specs.Recorder.{asFixed, asRecord, formOf, readingOf, opensBy, toldAs, cutOn, takenBy, takeOf, readingIn, holdOf}
 use Rattle.recorder.specs.declared.Setup.{Setup}
 use Rattle.recorder.specs.declared.Recorder.{Recorder}
 
@@ -28,7 +28,6 @@ module _ (s : Setup) (m : Answer (List ℕ)) where
   reads-fixed e = cond-no _ _ e
 
 accepted-done : (a : Answer Fixed) → isAccepted a ≡ isDone (fixedRead a .verdict)
-unfolding isAccepted isDone
 accepted-done (accepted f) = refl
 accepted-done (refused x) = refl
 

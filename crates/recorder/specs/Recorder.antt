@@ -3,7 +3,7 @@ use Prim.Native.Nat.{ℕ}
 use mathlib.Core.Bool.{Bool, true, false, cond}
 use mathlib.Core.List.{List, [], _∷_}
 use lib.ListN.{length}
-use Rattle.refusal.specs.Answer.{Answer, accepted, refused, unless}
+use Rattle.refusal.specs.Answer.{Answer, accepted, refused, unless, isAccepted}
 use Rattle.refusal.specs.declared.Refusal.the-variants.{State}
 use Rattle.refusal.specs.declared.Verdict.{Verdict}
 use Rattle.refusal.specs.declared.Verdict.the-variants.{Done, Refused}
@@ -72,10 +72,6 @@ readingOf s opened m =
     (asRecord (thenRead (readOf (formOf s) (s .checksum)) m))
     (asFixed (thenRead (readOf fixedForm false) m))
 
-unfoldable pub isAccepted : {A : Type 0} → Answer A → Bool
-isAccepted (accepted a) = true
-isAccepted (refused x) = false
-
 -- a message accepted opens it, and it stays so
 unfoldable pub opensBy : Bool → Reading → Bool
 opensBy opened (asFixed a) = isAccepted a
@@ -122,7 +118,3 @@ holdOf r p =
     cond (validRecorder r)
     (record { made = nothingBut Done; used = length p; ended = false; recorder = cutOn r (heldFrom (r .cutter) p) (r .opened) })
     (record { made = nothingBut (Refused State); used = 0; ended = false; recorder = r })
-
-unfoldable pub isDone : Verdict → Bool
-isDone Done = true
-isDone (Refused x) = false

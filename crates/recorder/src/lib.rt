@@ -9,7 +9,7 @@ use refusal::Refusal;
 use refusal::Verdict;
 ghost use mathlib.Core.Path.{_≡_};
 ghost use Rattle.record.specs.Record.{recordRead};
-ghost use Rattle.recorder.specs.Recorder.{isDone, nothingBut, recordIn, readingIn, toldAs, holdOf};
+ghost use Rattle.recorder.specs.Recorder.{nothingBut, recordIn, readingIn, toldAs, holdOf};
 ghost use Rattle.recorder.specs.Contracts.{SetupFirst, RecorderStart, RecorderIsValid, RecorderSend, RecorderTake};
 
 // The settings.
@@ -68,15 +68,6 @@ impl Setup {
             packed: false,
             checksum: false,
         }
-    }
-}
-
-fn is_done(verdict: Verdict) -> bool
-    ensures { λ r. ⌜ r ≡ isDone verdict ⌝ }
-{
-    match verdict {
-        Verdict::Done => true,
-        Verdict::Refused(_) => false,
     }
 }
 
@@ -225,7 +216,7 @@ impl Recorder {
         let made = self.make(&piece[0..n]);
         let verdict = made.verdict;
         let setup = self.setup;
-        let opened = self.opened | is_done(verdict);
+        let opened = self.opened | refusal::is_done(verdict);
         Recorded {
             made,
             used: n,

@@ -1,5 +1,5 @@
 // The refusals of document 01 and the requests, each with the number and the value that the paper gives it.
-ghost use Rattle.refusal.specs.Contracts.{NumberOf, ValueOf};
+ghost use Rattle.refusal.specs.Contracts.{NumberOf, ValueOf, IsDone};
 
 pub enum Refusal {
     // 1: a record or measurement field out of range: the lowest one.
@@ -71,5 +71,15 @@ pub fn value_of(r: Refusal) -> usize
         Refusal::Form => 0,
         Refusal::Lost => 0,
         Refusal::State => 0,
+    }
+}
+
+// Whether nothing is refused.
+pub fn is_done(v: Verdict) -> bool
+    ensures { λ r. ⌜ IsDone v r ⌝ }
+{
+    match v {
+        Verdict::Done => true,
+        Verdict::Refused(_) => false,
     }
 }

@@ -8,6 +8,7 @@ use borrow.Author.Tests.{eqb-true, le-leb}
 use lib.Dec.{leb, eqb}
 use lib.ListN.{length}
 use Rattle.laws.proofs.Tests.{told, cond-no, never}
+use Rattle.refusal.specs.Answer.{isDone}
 use Rattle.record.specs.Forms.{textLength}
 use Rattle.fixed.specs.Fixed.{letterOk, lensLowest, fixedLowest, settingsLowest}
 use Rattle.fixed.specs.declared.Settings.{Settings}
@@ -25,7 +26,7 @@ use Rattle.state.specs.declared.Modes.{Modes}
 use Rattle.state.specs.declared.State.{State}
 use Rattle.state.specs.declared.State.the-variants.{Ready, Running}
 use Rattle.state.specs.declared.Sending.the-variants as sending
-use Rattle.state.specs.State.{isDone, validSource}
+use Rattle.state.specs.State.{validSource}
 use Rattle.rules.specs.Does.{Outcome, withModes, filmNow, rateNext, rateMoved, unitWith, turned, letterNow, isOn, continuous, replies, silent, runs, isN, wakes, readies, doesIn, does, countsIn, counts}
 use Rattle.rules.specs.Lens.{Given, measurement, measured, updated, Good, longestReply}
 use Rattle.rules.proofs.Valid.{Valid, done-is, valid-told, valid-made, untouched-valid}

@@ -5,13 +5,14 @@ use mathlib.Core.Path.{_≡_, refl, ap, _∙_}
 use borrow.Author.Tests.{eqb-true, eq-eqb}
 use lib.Dec.{leb, eqb}
 use Rattle.laws.proofs.Tests.{and-left, and-right, and-both}
+use Rattle.refusal.specs.Answer.{isDone}
 use Rattle.refusal.specs.declared.Verdict.{Verdict}
 use Rattle.refusal.specs.declared.Verdict.the-variants.{Done, Refused}
 use Rattle.fixed.specs.Fixed.{settingsLowest}
 use Rattle.units.specs.Units.{isUnit}
 use Rattle.units.specs.Measurement.{measurementVerdict}
 use Rattle.state.specs.declared.Source.{Source}
-use Rattle.state.specs.State.{isDone, validModes, validSource}
+use Rattle.state.specs.State.{validModes, validSource}
 use Rattle.rules.specs.Readings.{Untouched}
 
 pub record Valid (s : Source) : Type 0 where

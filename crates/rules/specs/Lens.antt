@@ -4,6 +4,7 @@ use mathlib.Core.Bool.{true, false, cond}
 use mathlib.Core.List.{List, [], _∷_}
 use mathlib.Core.Path.{_≡_}
 use lib.Dec.{leb}
+use Rattle.refusal.specs.Answer.{isDone}
 use Rattle.frame.specs.Frame.{endingWidth}
 use Rattle.record.specs.Forms.{textLength}
 use Rattle.machine.specs.Machine.{Rules}
@@ -15,7 +16,7 @@ use Rattle.state.specs.declared.Source.{Source}
 use Rattle.state.specs.declared.State.the-variants.{Ready}
 use Rattle.state.specs.declared.Sending.the-variants.{Off}
 use Rattle.state.specs.declared.Modes.{Modes}
-use Rattle.state.specs.State.{isDone, validSource}
+use Rattle.state.specs.State.{validSource}
 use Rattle.rules.specs.Does.{withModes, rateMoved, does, counts, continuous, recordMessage}
 
 -- what is handed to the port between slots

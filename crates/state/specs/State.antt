@@ -1,12 +1,11 @@
 -- What a handed-in part of the state must be: no count past its buffer or message, every number, letter and text byte in its range.
 use Prim.Native.Nat.{ℕ}
-use mathlib.Core.Bool.{Bool, true, false, _&&_}
+use mathlib.Core.Bool.{Bool, _&&_}
 use mathlib.Core.List.{List}
 use lib.Dec.{leb, eqb}
 use lib.ListN.{length, replicate}
 use Rattle.laws.specs.Over.{over}
-use Rattle.refusal.specs.declared.Verdict.{Verdict}
-use Rattle.refusal.specs.declared.Verdict.the-variants.{Done, Refused}
+use Rattle.refusal.specs.Answer.{isDone}
 use Rattle.fixed.specs.Fixed.{settingsLowest}
 use Rattle.units.specs.Units.{isUnit}
 use Rattle.units.specs.Measurement.{measurementVerdict}
@@ -30,10 +29,6 @@ validModes m = leb (m .film) 31 && (isUnit (m .unit) && (leb (m .rate) 7 && leb 
 
 unfoldable pub validMessage : Message → Bool
 validMessage m = leb (m .len) messageLength && leb (m .at) (m .len)
-
-abbrev pub isDone : Verdict → Bool
-isDone Done = true
-isDone (Refused r) = false
 
 unfoldable pub validSource : Source → Bool
 validSource s = eqb (settingsLowest (s .settings)) 0 && (isDone (measurementVerdict (s .measurement)) && validModes (s .modes))

@@ -1,10 +1,9 @@
 // The parts of the port's state by value, and what a handed-in part must be (refusal 16).
 use fixed::Settings;
 use line::Line;
-use refusal::Verdict;
 use units::Measurement;
 ghost use mathlib.Core.Path.{_≡_};
-ghost use Rattle.state.specs.State.{isDone, validModes};
+ghost use Rattle.state.specs.State.{validModes};
 ghost use Rattle.state.specs.Contracts.{ValidMessage, ValidSource};
 
 // The bytes that the message under way sits in.
@@ -70,15 +69,6 @@ fn valid_modes(m: Modes) -> bool
     (m.film <= 31) & (((m.unit == b'I') | (m.unit == b'M')) & ((m.rate <= 7) & (m.next_rate <= 7)))
 }
 
-fn is_done(v: Verdict) -> bool
-    ensures { λ r. ⌜ r ≡ isDone v ⌝ }
-{
-    match v {
-        Verdict::Done => true,
-        Verdict::Refused(_) => false,
-    }
-}
-
 // Whether the message's counts are within the buffer and the message.
 pub fn valid_message(m: Message) -> bool
     ensures { λ r. ⌜ ValidMessage m r ⌝ }
@@ -91,7 +81,7 @@ pub fn valid_source(s: Source) -> bool
     ensures { λ r. ⌜ ValidSource s r ⌝ }
 {
     let measurement = s.measurement;
-    if !is_done(units::check_measurement(measurement)) {
+    if !refusal::is_done(units::check_measurement(measurement)) {
         return false;
     }
     let modes = s.modes;

@@ -1,6 +1,5 @@
 -- The text of what packed bytes say: how long its groups are, the pupil's sign, and the groups one behind the other. Assumes nothing.
-use Prim.Native.Nat.{ℕ, zero, suc, _+_, _/_, _%_, _^_, _≤_, _<_}
-use mathlib.Core.Bool.{Bool, true, false}
+use Prim.Native.Nat.{ℕ, _+_, _/_, _%_, _^_, _≤_, _<_}
 use mathlib.Core.List.{List, [], _∷_, _++_, append-assoc}
 use mathlib.Core.Logic.{_≢_}
 use mathlib.Core.Path.{_≡_, refl, sym, ap, _∙_}
@@ -13,7 +12,8 @@ use lib.Seq.{length-take-le}
 use Rattle.laws.specs.Over.{over}
 use Rattle.laws.proofs.OverLaws.{length-over, over-none, over-short, over-before, onto-end}
 use Rattle.laws.proofs.Tests.{cond-yes, cond-no}
-use Rattle.sign.specs.Sign.{size, signedOf}
+use Rattle.sign.proofs.Law.{size-signed}
+use Rattle.sign.specs.Sign.{size}
 use Rattle.digits.specs.Digits.{digits, decimal}
 use Rattle.digits.proofs.Laws.{length-digits}
 use Rattle.pointed.specs.Pointed.{pointed}
@@ -26,13 +26,8 @@ use Rattle.straight.specs.Text.{textIn}
 
 -- ---- the pupil
 
-size-is : (below : Bool) (n : ℕ) → size (signedOf below n) ≡ n
-size-is false n = refl
-size-is true zero = refl
-size-is true (suc n) = refl
-
 pub pupil-as : (d : List ℕ) {l : List ℕ} {r c k : ℕ} → r ≡ signByte (pupilIn c) → c ≡ k → l ≡ over d 55 (r ∷ decimal 3 (c % 2048)) → l ≡ over d 55 (signByte (pupilIn k) ∷ decimal 3 (size (pupilIn k)))
-pupil-as d {k = k} e f p = p ∙ rw (e, f, size-is (eqb (k / 2048) 1) (k % 2048))
+pupil-as d {k = k} e f p = p ∙ rw (e, f, size-signed (eqb (k / 2048) 1) (k % 2048))
 
 -- ---- the groups
 

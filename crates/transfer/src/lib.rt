@@ -8,9 +8,9 @@ ghost use mathlib.Core.Bool.{false};
 ghost use mathlib.Core.List.{List};
 ghost use mathlib.Core.Path.{_≡_};
 ghost use Prim.Native.Nat.{ℕ};
+ghost use Rattle.refusal.specs.Answer.{isAccepted};
 ghost use Rattle.frame.specs.Message.{readOf};
 ghost use Rattle.record.specs.Forms.{packedForm};
-ghost use Rattle.packed_bytes.specs.Bytes.{isAccepted};
 ghost use Rattle.transfer.specs.Contracts.{PackedToText, ByRecord};
 
 // Turns a packed message into the text message of the same record, by way of the record: 3, 4, 5 and 6 of the message, then 2.

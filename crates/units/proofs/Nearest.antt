@@ -9,6 +9,7 @@ use borrow.Author.Tests.{eqb-true, eqb-false, eq-eqb}
 use lib.Dec.{eqb}
 use lib.IntN.{ℤ, pos, negsuc}
 use Rattle.laws.proofs.Tests.{told}
+use Rattle.sign.proofs.Law.{size-signed}
 use Rattle.sign.specs.Sign.{size, below0, signedOf}
 use Rattle.units.specs.Units.{isUnit, byUnit, hundredths, Nearest, Converts, sizeIn, numberIn}
 
@@ -43,11 +44,6 @@ pub one-nearest : {num den n k k′ : ℕ} → Nearest num den n k → Nearest n
 one-nearest p q = omega (arith, not-above p q, not-above q p)
 
 -- ---- signs
-
-pub size-signed : (b : Bool) (n : ℕ) → size (signedOf b n) ≡ n
-size-signed false n = refl
-size-signed true zero = refl
-size-signed true (suc n) = refl
 
 sign-kept : (b : Bool) (n : ℕ) → 0 < n → below0 (signedOf b n) ≡ b
 sign-kept false n h = refl

@@ -9,6 +9,7 @@ use borrow.Author.Tests.{leb-true, le-leb, eqb-true, eq-eqb, ne-eqb, not-true}
 use lib.Dec.{leb, eqb}
 use lib.IntN.{ℤ}
 use Rattle.laws.proofs.Tests.{cond-yes, told, and-left, and-right, never}
+use Rattle.sign.proofs.Law.{size-signed}
 use Rattle.sign.specs.Sign.{size, below0}
 use Rattle.refusal.specs.declared.Verdict.the-variants.{Done, Refused}
 use Rattle.refusal.specs.declared.Refusal.{Refusal}
@@ -19,7 +20,7 @@ use Rattle.record.specs.declared.Figures.{Figures}
 use Rattle.units.specs.Units.{isUnit, byUnit, inchDistance, inchPupil, topIn, mostIn, sizeIn, numberIn, isDistance, inRange, Distance}
 use Rattle.units.specs.Measurement.{measurementLowest, measurementVerdict, shownDistance, shownPupil, figuresIn, recordIn}
 use Rattle.units.specs.declared.Measurement.{Measurement}
-use Rattle.units.proofs.Nearest.{either, size-signed}
+use Rattle.units.proofs.Nearest.{either}
 
 -- a converted size is about three times as large at most
 pub size-bound : (unit wanted n : ℕ) → sizeIn unit wanted n ≤ 3 * n + 1

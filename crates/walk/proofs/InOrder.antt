@@ -6,6 +6,7 @@ use mathlib.Core.Option.{Option, none, some}
 use mathlib.Core.Path.{_≡_, refl, sym, ap, ap₂, subst, _∙_}
 use lib.ListN.{replicate}
 use Rattle.laws.proofs.Tests.{cond-yes, cond-no, told, never}
+use Rattle.refusal.specs.Answer.{isDone}
 use Rattle.machine.specs.Machine.{Kind, Choice, choice, State, port, waiting, line, listed, rules, begin, onByte, onReturn, onOther, onSlot, onGiven, received, slot, given, Out, next, shows, seen, takenIn, taken, actedIn, acted}
 use Rattle.machine.proofs.Use.{seen-append}
 use Rattle.refusal.specs.declared.Verdict.{Verdict}
@@ -13,7 +14,6 @@ use Rattle.units.specs.declared.Measurement.{Measurement}
 use Rattle.line.specs.declared.Line.{Line}
 use Rattle.line.specs.Line.{ends}
 use Rattle.state.specs.declared.Waiting.{Waiting}
-use Rattle.state.specs.State.{isDone}
 use Rattle.rules.specs.Lens.{measurement, lens}
 use Rattle.walk.specs.View.{waitsOf, view}
 use Rattle.walk.specs.Calls.{Call, receive, slots-once, measure, fill, Held, viewOf, after, ran, eventsOf, afterAll, eventsAll, FromStart}

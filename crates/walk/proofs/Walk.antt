@@ -8,6 +8,7 @@ use native.Mathlib.Omega.{arith}
 use lib.ListN.{length}
 use Rattle.laws.proofs.OverLaws.{take-over}
 use Rattle.laws.proofs.Tests.{and-both, cond-yes, told}
+use Rattle.refusal.specs.Answer.{isDone}
 use Rattle.machine.specs.Machine.{neither, port, start, onReturn, onOther, onByte, onGiven, next, received, given}
 use Rattle.refusal.specs.declared.Refusal.the-variants as refusal
 use Rattle.refusal.specs.declared.Verdict.{Verdict}
@@ -17,7 +18,7 @@ use Rattle.units.specs.Measurement.{measurementVerdict}
 use Rattle.units.specs.declared.Measurement.{Measurement}
 use Rattle.line.specs.declared.Line.{Line}
 use Rattle.line.specs.Line.{blank, ends, joined, validLine}
-use Rattle.state.specs.State.{isDone, zeros}
+use Rattle.state.specs.State.{zeros}
 use Rattle.state.proofs.Laws.{zeros-long}
 use Rattle.rules.specs.Lens.{measurement, measured, lens, greeting}
 use Rattle.port.specs.declared.Port.{Port}

@@ -7,6 +7,7 @@ use mathlib.Core.Logic.{_≢_}
 use mathlib.Core.Path.{_≡_}
 use lib.Dec.{ltb}
 use lib.ListN.{replicate}
+use Rattle.refusal.specs.Answer.{isDone}
 use Rattle.machine.specs.Machine.{listed, joined}
 use Rattle.refusal.specs.declared.Verdict.the-variants.{Done}
 use Rattle.fixed.specs.declared.Settings.{Settings}
@@ -15,7 +16,6 @@ use Rattle.line.specs.declared.Line.{Line}
 use Rattle.line.specs.Line.{ends}
 use Rattle.state.specs.declared.Last.the-variants as last
 use Rattle.state.specs.declared.Source.{Source}
-use Rattle.state.specs.State.{isDone}
 use Rattle.rules.specs.Does.{does, recordMessage, continuous}
 use Rattle.rules.specs.Lens.{greeting}
 use Rattle.port.specs.declared.Port.{Port}

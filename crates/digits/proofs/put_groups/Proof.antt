@@ -5,7 +5,6 @@ use mathlib.Core.Path.{refl, sym, _∙_}
 use native.Mathlib.Omega.{arith}
 use borrow.Author.Needs.{needs}
 use borrow.Author.Tests.{leb-true, leb-false, not-true, not-false}
-use Rattle.digits.specs.Digits.{groups}
 use Rattle.digits.proofs.FromTheEnd.{Written, no-room, one, begun, goes-on, ended}
 use Rattle.digits.proofs.put_groups.Statement.{statement}
 use Rattle.digits.proofs.put_groups.Tie as tie

@@ -1,13 +1,13 @@
 -- `packed_bytes::is_right` meets its contract: a message that opens, and whose contents are right. Assumes nothing.
 use mathlib.Core.Path.{_≡_, sym, ap, _∙_}
 use native.Mathlib.Omega.{arith}
+use Rattle.refusal.specs.Answer.{isAccepted}
 use Rattle.refusal.specs.declared.Verdict.the-variants.{Done}
 use Rattle.frame.specs.Frame.{opening}
 use Rattle.frame.proofs.Answers.{reads-refused, reads-on}
 use Rattle.frame.proofs.Exactly.{opens}
 use Rattle.record.specs.Forms.{packedForm, packedLength}
 use Rattle.record.proofs.Exact.{packed-form-width}
-use Rattle.packed_bytes.specs.Bytes.{isAccepted}
 use Rattle.packed_bytes.proofs.Right.{holds-found}
 use borrow.Author.Needs.{needs}
 use Rattle.packed_bytes.proofs.is_right.Statement.{statement}

@@ -5,10 +5,11 @@ use borrow.Author.Needs.{needs}
 use borrow.Author.Tests.{not-true, not-false}
 use lib.Dec.{eqb}
 use Rattle.laws.proofs.Tests.{and-both, and-fails, and-fails-by, and-goes-by}
+use Rattle.refusal.specs.Answer.{isDone}
 use Rattle.fixed.specs.Fixed.{settingsLowest}
 use Rattle.units.specs.Measurement.{measurementVerdict}
 use Rattle.state.specs.declared.Source.{Source}
-use Rattle.state.specs.State.{isDone, validModes, validSource}
+use Rattle.state.specs.State.{validModes, validSource}
 use Rattle.state.proofs.valid_source.Statement.{statement}
 use Rattle.state.proofs.valid_source.Tie as tie
 

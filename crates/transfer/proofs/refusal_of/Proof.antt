@@ -2,12 +2,12 @@
 use mathlib.Core.Bool.{true, false}
 use mathlib.Core.Path.{_≡_, sym, ap, _∙_}
 use Rattle.laws.proofs.Tests.{never}
+use Rattle.refusal.specs.Answer.{isAccepted}
 use Rattle.frame.specs.Message.{readOf}
 use Rattle.frame.proofs.Laid.{not-moved, moves-by}
 use Rattle.record.specs.Forms.{packedForm}
 use Rattle.record.specs.declared.RecordRead.{RecordRead}
 use Rattle.record.proofs.Told.{told-refused, told-done}
-use Rattle.packed_bytes.specs.Bytes.{isAccepted}
 use Rattle.transfer.specs.Transfer.{turnedLength}
 use Rattle.transfer.proofs.Turned.{turned-refused}
 use borrow.Author.Needs.{needs}

@@ -6,9 +6,10 @@ use Prim.Native.Nat.{ℕ, _-_}
 use native.Mathlib.Omega.{arith}
 use borrow.Author.Needs.{needs}
 use lib.ListN.{length, take}
+use Rattle.refusal.specs.Answer.{isDone}
 use Rattle.cutter.specs.Cutter.{cutterLength, fresh, heldFrom, heldMessage, endIn}
 use Rattle.cutter.specs.declared.Cutter.{Cutter}
-use Rattle.recorder.specs.Recorder.{toldAs, cutOn, takeOf, readingIn, isDone}
+use Rattle.recorder.specs.Recorder.{toldAs, cutOn, takeOf, readingIn}
 use Rattle.recorder.specs.declared.Recorder.{Recorder}
 use Rattle.recorder.specs.declared.Made.{Made}
 use Rattle.recorder.proofs.Takes.{opens-done, take-none, take-some}
