@@ -10,5 +10,6 @@ pub mod Feeding
 pub mod Splitting
 pub mod Lent
 pub mod Ending
+pub mod Nine
 pub mod Promises
 pub mod Unique

@@ -23,6 +23,7 @@ use Rattle.cutter.proofs.Feeding.{resumed, answers, left, elsewhere, na
 use Rattle.cutter.proofs.Splitting.{splits, only, forgets}
 use Rattle.cutter.proofs.Lent.{lent, lent-none, lent-next}
 use Rattle.cutter.proofs.Ending.{ends-lf-cr}
+use Rattle.cutter.proofs.Nine.{only-9}
 
 -- a call, refused or not
 module _ (c : Cutter) (p : List ℕ) where
@@ -60,7 +61,7 @@ module _ (c : Cutter) (p out : List ℕ) where
   handed = record {
     refuses = λ e. let q = refused-same c p e in (rw e (rw (q .0) (rw (q .1))), rw e);
     none = λ e. let q = unfinished c p e in (rw e (rw (q .0) (rw (q .1))), rw e);
-    too-long = λ x e. let q = after-end c p _ e in (rw e (rw q), rw e);
+    too-long = λ x e. let q = after-end c p _ e in (rw e (rw q (rw (only-9 c p x e))), rw e);
     no-room = λ m e h.
         let q = after-end c p _ e in
         (rw e (rw q (rw (lt-leb (length m) (length out) h))), rw e (over-short out m 0 (omega arith)));

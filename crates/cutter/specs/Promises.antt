@@ -8,7 +8,7 @@ use lib.Dec.{eqb}
 use lib.ListN.{length, replicate, take, drop, getD}
 use Rattle.refusal.specs.Answer.{Answer, accepted, refused}
 use Rattle.refusal.specs.declared.Refusal.{Refusal}
-use Rattle.refusal.specs.declared.Refusal.the-variants.{Room, State}
+use Rattle.refusal.specs.declared.Refusal.the-variants.{Room, TooLong, State}
 use Rattle.frame.specs.declared.Wrote.the-variants as wrote
 use Rattle.frame.specs.Refuses.{Ended}
 use Rattle.cutter.specs.Cutter.{cutterLength, fresh, validCutter, heldFrom, heldMessage, closes, invalid, nothing, ended, cutOf}
@@ -75,7 +75,7 @@ pub record Has (x : List ℕ) (c : Cutter) : Type 0 where
   pub many : 160 < length x → (c .len ≡ 161) × (getD (c .bytes) 159 0 ≡ lastOf 0 x)
 
 pub record AnyCutting : Type 1 where
-  -- and from any cutter, by the bytes that it has
+  -- from any cutter, by the bytes that it has
   pub resumed : {A : Type 0} (read : List ℕ → Answer A) (x : List ℕ) (c : Cutter) (s : List ℕ) (js : List (Answer A)) (d : Cutter) → Has x c →
       Fed read c s js d → js ≡ judgedAll read (messagesFrom x s)
   -- over any cutting into pieces the answers are those of the list
@@ -120,9 +120,9 @@ pub record Answers (c : Cutter) (p out : List ℕ) : Type 0 where
   pub none : cutOf c p .said ≡ nothing →
       (cutAnswer (cutOf c p) out ≡ record { wrote = wrote.Count 0; used = length p; ended = false; cutter = heldFrom c p }) ×
       (leftBySaid wholeLeft (cutOf c p .said) out ≡ out)
-  -- 9, and nothing written
+  -- a message that ended and is refused: 9, and nothing written
   pub too-long : (x : Refusal) → cutOf c p .said ≡ ended (refused x) →
-      (cutAnswer (cutOf c p) out ≡ record { wrote = wrote.Refused x; used = cutOf c p .used; ended = true; cutter = fresh }) ×
+      (cutAnswer (cutOf c p) out ≡ record { wrote = wrote.Refused TooLong; used = cutOf c p .used; ended = true; cutter = fresh }) ×
       (leftBySaid wholeLeft (cutOf c p .said) out ≡ out)
   -- then 2, with the message's length; it is used up all the same
   pub no-room : (m : List ℕ) → cutOf c p .said ≡ ended (accepted m) → length out < length m →

@@ -1,9 +1,11 @@
 -- Document 01's columns 'No.' and 'Range', row by row.
 use Prim.Native.Nat.{ℕ}
+use mathlib.Core.Bool.{_&&_}
 use mathlib.Core.List.{[], _∷_, _++_}
-use lib.Dec.{leb}
+use lib.Dec.{leb, eqb}
+use lib.ListN.{length}
+use Rattle.laws.specs.Every.{every}
 use Rattle.sign.specs.Sign.{size}
-use Rattle.codec.specs.Codec.{textOk}
 use Rattle.codec.specs.Ranges.{Ranges}
 use Rattle.stop.specs.Stop.{stopOk}
 use Rattle.record.specs.declared.Figures.{Figures}
@@ -25,6 +27,6 @@ figuresRanges top most f =
     ∷ (11, leb (f .zoom) 1000)
     ∷ []
 
--- and field 12
+-- and field 12: "9 bytes, each 20..7E hex"
 abbrev pub recordRanges : Record → Ranges
-recordRanges r = figuresRanges 9999999 999 (r .figures) ++ (12, textOk 9 (r .serial)) ∷ []
+recordRanges r = figuresRanges 9999999 999 (r .figures) ++ (12, eqb (length (r .serial)) 9 && every (λ x. leb 0x20 x && leb x 0x7E) (r .serial)) ∷ []

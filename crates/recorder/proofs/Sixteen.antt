@@ -1,12 +1,12 @@
 -- 16 is not said of a message: no reader answers it, and no cutter hands it on. Assumes nothing.
 use Prim.Native.Nat.{ℕ, _+_}
 use mathlib.Core.Bool.{Bool, true, false}
-use mathlib.Core.List.{List, [], _∷_}
+use mathlib.Core.List.{List}
 use mathlib.Core.Path.{_≡_, refl, ap}
-use lib.Dec.{leb, eqb}
+use lib.Dec.{eqb}
 use lib.ListN.{length, take}
 use Rattle.laws.proofs.Tests.{by, never}
-use Rattle.refusal.specs.Answer.{Answer, accepted, refused, unless}
+use Rattle.refusal.specs.Answer.{Answer, accepted, refused}
 use Rattle.refusal.specs.declared.Refusal.the-variants.{State}
 use Rattle.refusal.specs.declared.Verdict.{Verdict}
 use Rattle.refusal.specs.declared.Verdict.the-variants.{Done, Refused}
@@ -17,8 +17,9 @@ use Rattle.record.proofs.Told.{told-refused}
 use Rattle.fixed.specs.Fixed.{fixedRead}
 use Rattle.fixed.specs.Form.{fixedForm}
 use Rattle.fixed.specs.declared.Fixed.{Fixed}
-use Rattle.cutter.specs.Cutter.{cutterLength, validCutter, joined, endsMessage, heldMessage, Said, invalid, nothing, ended, Cutting, cutFrom, cutOf, thenRead}
+use Rattle.cutter.specs.Cutter.{Said, invalid, nothing, ended, cutOf, thenRead}
 use Rattle.cutter.specs.declared.Cutter.{Cutter}
+use Rattle.cutter.proofs.Nine.{only-9}
 use Rattle.recorder.specs.Recorder.{formOf, readingOf, toldAs, takenBy}
 use Rattle.recorder.specs.declared.Setup.{Setup}
 use Rattle.recorder.specs.declared.Recorder.{Recorder}
@@ -65,21 +66,8 @@ told-16 s false m e = read-16 fixedForm false m (fixed-16 _ e)
 
 -- ---- the cutter
 
-abbrev NotSaid : Cutting → Type 0
-NotSaid t = t .said ≡ ended (refused State) → ⊥
-
-held-not : (c : Cutter) → heldMessage c ≡ refused State → ⊥
-unfolding heldMessage unless
-held-not c = by (λ (a : Answer (List ℕ)). a ≡ refused State → ⊥) (leb (c .len) cutterLength) _ _ (λ _ e. never (cc)) (λ _ e. never (cc))
-
-from-not : (p : List ℕ) (c : Cutter) (n : ℕ) → NotSaid (cutFrom c n p)
-unfolding cutFrom
-from-not [] c n = λ e. never (cc)
-from-not (b ∷ p) c n = by NotSaid (endsMessage c b) _ _ (λ _ e. held-not (joined c b) (cc)) (λ _. from-not p (joined c b) (n + 1))
-
-pub cut-not : (c : Cutter) (p : List ℕ) → NotSaid (cutOf c p)
-unfolding cutOf
-cut-not c p = by NotSaid (validCutter c) _ _ (λ _. from-not p c 0) (λ _ e. never (cc))
+pub cut-not : (c : Cutter) (p : List ℕ) → cutOf c p .said ≡ ended (refused State) → ⊥
+cut-not c p e = let k = only-9 c p State e in never (cc)
 
 -- ---- a call
 
