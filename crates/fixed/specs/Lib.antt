@@ -3,3 +3,4 @@ pub mod Form
 pub mod Contracts
 pub mod Places
 pub mod Ranges
+pub mod Promises

@@ -3,9 +3,9 @@ use mathlib.Core.Bool.{_&&_, _||_}
 use mathlib.Core.List.{[], _∷_, _++_}
 use lib.Dec.{leb, eqb}
 use lib.ListN.{length}
+use Rattle.laws.specs.Every.{every}
 use Rattle.codec.specs.Codec.{textOk}
 use Rattle.codec.specs.Ranges.{Ranges}
-use Rattle.fixed.specs.Fixed.{blurOk}
 use Rattle.fixed.specs.declared.Fixed.{Fixed}
 use Rattle.fixed.specs.declared.Settings.{Settings}
 
@@ -26,4 +26,4 @@ fixedRanges f =
 abbrev pub settingsRanges : Settings → Ranges
 settingsRanges s =
     fixedRanges (s .fixed)
-    ++ (9, textOk 15 (s .maker)) ∷ (10, textOk 30 (s .«type_name»)) ∷ (11, eqb (length (s .blur)) 32 && blurOk (s .blur)) ∷ []
+    ++ (9, textOk 15 (s .maker)) ∷ (10, textOk 30 (s .«type_name»)) ∷ (11, eqb (length (s .blur)) 32 && every (λ x. leb x 999) (s .blur)) ∷ []

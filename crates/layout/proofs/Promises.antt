@@ -2,7 +2,7 @@
 -- Assumes nothing.
 use Prim.Native.Nat.{ℕ, zero, suc, _+_, _-_, _/_, _^_, _<_}
 use mathlib.Core.List.{List, [], _++_, append-assoc}
-use mathlib.Core.Path.{_≡_, sym, ap, _∙_}
+use mathlib.Core.Path.{_≡_, refl, sym, ap, _∙_}
 use native.Mathlib.Nat.{pow-succ'}
 use native.Mathlib.Omega.{arith}
 use borrow.Author.Tests.{leb-true, le-leb, lt-leb}
@@ -159,6 +159,7 @@ apart : {A : Type 0} (rule : A → ℕ) (bytes : A → List ℕ) (unpack : List 
 apart rule bytes unpack back a b y z e = sym (back a [] y) ∙ ap (λ (s : List ℕ). unpack (s ++ [])) e ∙ back b [] z
 
 pub promised : Promised
+unfolding fourEach numbersOf lowestFirst twos lensBytes
 promised = record {
   of-record = record {
     long = λ r z. record-long r (serial-long r z);
@@ -170,4 +171,8 @@ promised = record {
     back = fixed-back;
     apart = apart fixedLowest fixedBytes unpackFixed fixed-back;
   };
+  laid-record = λ serial. refl;
+  laid-fixed = λ serial owner version. refl;
+  no-record = refl;
+  no-fixed = refl;
 }

@@ -1,24 +1,29 @@
 -- The promises of the owner's part, by where the form writes the owner. Assumes nothing.
 use Prim.Native.Nat.{ℕ, zero, suc, _+_, _-_, _≤_, _<_}
-use mathlib.Core.Bool.{true, false}
+use mathlib.Core.Bool.{Bool, true, false}
 use mathlib.Core.List.{List, _∷_, _++_, append-assoc}
-use mathlib.Core.Path.{_≡_, sym, ap, _∙_}
+use mathlib.Core.Path.{_≡_, sym, ap, subst, _∙_}
+use native.Mathlib.Nat.{zero-add}
 use native.Mathlib.Omega.{arith}
 use borrow.Author.Tests.{eqb-true, eqb-false, ltb-true, ltb-false}
 use lib.Dec.{eqb, ltb}
 use lib.ListN.{length, getD, take, drop}
 use lib.Seq.{take-take, take-at, drop-append-add}
+use denote.Ref.{RefT}
 use Rattle.laws.proofs.Tests.{told}
+use Rattle.refusal.specs.Answer.{Answer, accepted, refused}
 use Rattle.frame.specs.Frame.{ending}
+use Rattle.frame.specs.Message.{readOf}
 use Rattle.frame.proofs.Exactly.{reads-only, one-message}
 use Rattle.fixed.specs.Fixed.{lensIn}
 use Rattle.fixed.specs.Form.{serial, owner, lensItems, version, fixedForm}
 use Rattle.fixed.specs.declared.Fixed.{Fixed}
 use Rattle.fixed.proofs.Exact.{fixed-form-exact, fixed-once, fixed-lowest}
 use Rattle.fixed.proofs.Given.{items-long}
-use Rattle.nreader.specs.Reader.{unspaced, trimmed}
-use Rattle.nreader.specs.Promises.{OwnersName, OnlySpaces, AllSpaces}
-use Rattle.nreader.proofs.Owner.{unspaced-low}
+use Rattle.nreader.specs.Reader.{unspaced, trimmed, PartBy}
+use Rattle.nreader.specs.Contracts.{OwnerPart}
+use Rattle.nreader.specs.Promises.{OwnersName, AcceptedPart, RefusedPart, OnlySpaces, AllSpaces}
+use Rattle.nreader.proofs.Owner.{unspaced-low, part-by}
 
 -- behind N, S, the serial and O the owner stands
 owner-at : (f : Fixed) (r : List ℕ) → length (f .serial) ≡ 9 → length (f .owner) ≡ 31 → take 31 (drop 12 (fixedForm .print f ++ r)) ≡ f .owner
@@ -40,6 +45,16 @@ owners-name checksum m f e =
     let h : n ≤ 31 = omega (arith, unspaced-low (f .owner) (length (f .owner)), l .thirty-one) in
     sym (take-take n 31 (drop 12 m) h)
     ∙ ap (take n) (ap (λ (x : List ℕ). take 31 (drop 12 x)) own ∙ owner-at f (ending checksum (fixedForm .print f)) (l .nine) (l .thirty-one))
+
+pub accepted-part : AcceptedPart
+accepted-part m checksum f r e p =
+    let q : PartBy m (accepted f) r = part-by m (sym e) p in
+    (q .place, q .bytes ∙ owners-name checksum (m .now) f e)
+
+pub refused-part : RefusedPart
+refused-part m checksum x r e p =
+    let q : PartBy m (refused x) r = part-by m (sym e) p in
+    (q .place ∙ ap (λ (o : ℕ). (m .ptr .0, o)) (zero-add (m .ptr .1)), q .bytes)
 
 -- one byte more: a space is left out, and any other byte ends the part
 step-space : (s : List ℕ) (n : ℕ) → eqb (getD s n 0) 32 ≡ true → unspaced s (suc n) ≡ unspaced s n

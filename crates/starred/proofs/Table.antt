@@ -12,6 +12,7 @@ use Rattle.stop.specs.Stop.{stopOk, stopText, stop, readStop, readTenth, pair, 
 use Rattle.pupil.specs.Pupil.{pupilText, pupilPacked}
 use Rattle.record.specs.Forms.{frontText, middleText, backText, frontPacked, middlePacked, backPacked, serial, textForm, packedForm}
 use Rattle.record.specs.Places.{textPlaces, packedPlaces}
+use Rattle.fixed.specs.Form as fixed
 use Rattle.units.specs.Units.{byUnit, sizeIn, numberIn, inRange, conversion}
 use Rattle.archive.specs.Old.{byTen, oldZoom, oldBack, oldForm, form122}
 use Rattle.archive.specs.Archive.{added, dropped, forward, back}
@@ -86,5 +87,5 @@ turns = record {
 }
 
 pub session : Session
-unfolding likeR recordR letterOf
-session = record { measurement = refl; serial = λ letter. refl; letter = refl }
+unfolding likeR recordR letterOf digits fixed.serial fixed.owner fixed.lensItems fixed.version fixed.fixedForm
+session = record { measurement = refl; serial = λ letter. refl; letter = refl; n-reply = refl }

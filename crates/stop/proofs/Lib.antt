@@ -1,3 +1,4 @@
 pub mod Exact
 pub mod Blames
 pub mod Unique
+pub mod Promises

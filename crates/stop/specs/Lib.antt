@@ -1,3 +1,4 @@
 pub mod Stop
 pub mod Contracts
 pub mod Places
+pub mod Promises
