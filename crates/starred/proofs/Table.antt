@@ -3,15 +3,16 @@ use mathlib.Core.Path.{refl}
 use Rattle.refusal.specs.Answer.{unless, andThen}
 use Rattle.laws.specs.Every.{every}
 use Rattle.digits.specs.Digits.{digits, value, readDigits, readField}
-use Rattle.codec.specs.Codec.{fieldSays, passed, both, mapped, chained, textOk, readTagged}
+use Rattle.codec.specs.Codec.{failing, first, fieldSays, passed, both, mapped, chained, textOk, readTagged}
 use Rattle.codec.specs.Places.{fieldOf}
 use Rattle.frame.specs.Frame.{xorFrom, sumOf, ending, isEnded, sums, opening}
-use Rattle.frame.specs.Message.{found, afterwards, readOf}
+use Rattle.frame.specs.Message.{found, afterwards, readOf, checked, roomFor, thenWrite, writeOf}
 use Rattle.pointed.specs.Pointed.{pointed, joined, readPointed}
 use Rattle.stop.specs.Stop.{stopOk, stopText, stop, readStop, readTenth, pair, readStopText}
 use Rattle.pupil.specs.Pupil.{pupilText, pupilPacked}
 use Rattle.record.specs.Forms.{frontText, middleText, backText, frontPacked, middlePacked, backPacked, serial, textForm, packedForm}
 use Rattle.record.specs.Places.{textPlaces, packedPlaces}
+use Rattle.fixed.specs.Fixed.{kindOk, letterOk}
 use Rattle.fixed.specs.Form as fixed
 use Rattle.units.specs.Units.{byUnit, sizeIn, numberIn, inRange, conversion}
 use Rattle.archive.specs.Old.{byTen, oldZoom, oldBack, oldForm, form122}
@@ -19,7 +20,7 @@ use Rattle.archive.specs.Archive.{added, dropped, forward, back}
 use Rattle.packed_bytes.specs.Bytes.{sixes}
 use Rattle.transfer.specs.Transfer.{turned}
 use Rattle.bench_lens.specs.Bench.{letterOf}
-use Rattle.starred.specs.Starred.{likeR, recordR, Session, textR, packedR, Starred, Amended, OldLines, Turns}
+use Rattle.starred.specs.Starred.{likeR, recordR, Session, textR, packedR, Starred, Amended, OldLines, Turns, Numbered}
 
 pub starred : Starred
 unfolding likeR recordR textR packedR digits fieldOf packedPlaces xorFrom sumOf ending pointed stopText stop pair pupilText pupilPacked frontText middleText backText frontPacked middlePacked backPacked serial textForm packedForm unless byUnit sizeIn numberIn inRange conversion
@@ -89,3 +90,7 @@ turns = record {
 pub session : Session
 unfolding likeR recordR letterOf digits fixed.serial fixed.owner fixed.lensItems fixed.version fixed.fixedForm
 session = record { measurement = refl; serial = λ letter. refl; letter = refl; n-reply = refl }
+
+pub numbered : Numbered
+unfolding likeR recordR textR failing first kindOk letterOk digits value readDigits readField fieldSays passed both chained mapped every textOk readTagged pointed joined readPointed stopOk stopText stop readStopText pupilText frontText middleText backText serial textForm fixed.serial fixed.owner fixed.lensItems fixed.version fixed.fixedForm xorFrom sumOf isEnded sums opening ending found afterwards readOf checked roomFor thenWrite writeOf unless andThen byTen dropped back
+numbered = record { one = refl; two = refl; three = refl; four = refl; five = refl; six = refl; eight = refl; eleven = refl }

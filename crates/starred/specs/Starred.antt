@@ -1,15 +1,18 @@
--- Document 01's bench figures marked *: one table, one statement; the figure that [5] amends; those of [6]'s old line; and [7]'s messages of R.
+-- Document 01's bench figures marked *: one table, one statement; the figure that [5] amends; those of [6]'s old line; [7]'s messages of R; and the
+-- refusal numbers of R and the session's settings, each made wrong in one way.
 use Prim.Native.Nat.{ℕ}
 use mathlib.Core.Bool.{true, false}
 use mathlib.Core.List.{List, [], _∷_, _++_}
 use mathlib.Core.Path.{_≡_}
 use lib.IntN.{ℤ, pos, negsuc}
 use lib.ListN.{take, drop, replicate}
-use Rattle.refusal.specs.Answer.{accepted, refused}
-use Rattle.refusal.specs.declared.Refusal.the-variants.{Length, Checksum, Contents, Lost}
+use Rattle.refusal.specs.Answer.{Answer, accepted, refused}
+use Rattle.refusal.specs.Refusal.{numberOf, valueOf}
+use Rattle.refusal.specs.declared.Refusal.the-variants.{Field, Length, Checksum, Contents, Setting, Lost}
 use Rattle.codec.specs.Codec.{got, wrong}
 use Rattle.codec.specs.Places.{fieldOf}
 use Rattle.frame.specs.Frame.{framed}
+use Rattle.frame.specs.Message.{readOf, writeOf}
 use Rattle.pupil.specs.Pupil.{pupilText, pupilPacked, plusText, minusText}
 use Rattle.record.specs.Forms.{textForm, packedForm}
 use Rattle.record.specs.Places.{textPlaces, packedPlaces}
@@ -155,3 +158,23 @@ pub record Turns : Type 0 where
   pub summed-for-plain : turned false (packedR ++ 0x4D ∷ 0x48 ∷ 0x0A ∷ 0x0D ∷ []) ≡ refused (Length 43)
   -- what its bytes say
   pub r-said : recordIn packedR ≡ recordR
+
+-- the number, and what is also returned
+abbrev pub toldWith : {A : Type 0} → Answer A → ℕ × ℕ
+toldWith (accepted a) = (0, 0)
+toldWith (refused x) = (numberOf x, valueOf x)
+
+-- "Refusal numbers", those of a writer, a reader and [6]; a wrong one that is told for 7, 9, 10 or 16 is refused where it is printed or handed over
+pub record Numbered : Type 0 where
+  -- R with a stop of 105; into 75 bytes
+  pub one : toldWith (writeOf textForm Field false (likeR 798 105 5 (pos 23) 0) (replicate 76 0)) ≡ (1, 3)
+  pub two : toldWith (writeOf textForm Field false recordR (replicate 75 0)) ≡ (2, 76)
+  -- R without its D; with CR LF; with the packed form's checksum; with Z for z
+  pub three : toldWith (readOf textForm false (drop 1 textR ++ 0x0A ∷ 0x0D ∷ [])) ≡ (3, 75)
+  pub four : toldWith (readOf textForm false (textR ++ 0x0D ∷ 0x0A ∷ [])) ≡ (4, 0)
+  pub five : toldWith (readOf textForm true (textR ++ 0x4D ∷ 0x48 ∷ 0x0A ∷ 0x0D ∷ [])) ≡ (5, 0)
+  pub six : toldWith (readOf textForm false (take 59 textR ++ 0x5A ∷ (drop 60 textR ++ 0x0A ∷ 0x0D ∷ []))) ≡ (6, 11)
+  -- the start-up letter Q
+  pub eight : toldWith (writeOf fixedForm Setting false (benchSettings 0x51 .fixed) (replicate 67 0)) ≡ (8, 6)
+  -- R at 0.575, back
+  pub eleven : toldWith (back (take 59 textR ++ 0x7A ∷ 0x30 ∷ 0x35 ∷ 0x37 ∷ 0x35 ∷ (drop 64 textR ++ 0x0A ∷ 0x0D ∷ []))) ≡ (11, 0)
