@@ -6,10 +6,10 @@ use Rattle.line.specs.declared.Command.{Command}
 use Rattle.line.specs.declared.Command.the-variants.{B, C, D, G, H, Ka, Kb, Kc, Kd, K3, K4, N, P, «V», W, X, Y, Unknown}
 use Rattle.state.specs.declared.State.{State}
 use Rattle.state.specs.declared.Source.{Source}
-use Rattle.rules.specs.Does.{replies, silent, runs, recordIs, isN, countsIn, counts, recordMessage}
+use Rattle.rules.specs.Does.{replies, silent, runs, recordIs, isN, readies, countsIn, counts, recordMessage}
 use Rattle.rules.specs.Lens.{measured}
 use Rattle.rules.specs.Rows.{others, Rows}
-use Rattle.rules.proofs.Readings.{not-n}
+use Rattle.rules.proofs.Readings.{not-n, untouched}
 
 stay : (s : Source) (c : Command) → others (runs s c .source) ≡ others s
 unfolding replies silent runs
@@ -33,7 +33,7 @@ stay s Y = refl
 stay s Unknown = told (s .modes .inhibit) (λ e. rw e) (λ e. rw e)
 
 pub rows : (s : Source) → Rows s
-unfolding replies silent runs recordIs counts countsIn measured recordMessage isN
+unfolding replies silent runs readies recordIs counts countsIn measured recordMessage isN
 rows s = record {
   others-stay = stay s;
   c-switches = refl;
@@ -46,6 +46,11 @@ rows s = record {
   w-switches = λ n. refl;
   x-switches = refl;
   y-switches = refl;
+  waking-keeps = untouched s _ _ _ _;
+  waking-switches = refl;
+  ended-rate = refl;
+  ended-keeps = (refl, refl, refl);
+  ended-switches = refl;
   b-answers = refl;
   c-answers = refl;
   kc-answers = refl;

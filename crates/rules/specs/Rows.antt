@@ -21,8 +21,9 @@ use Rattle.state.specs.declared.State.the-variants.{Ready, Running}
 use Rattle.state.specs.declared.Sending.{Sending}
 use Rattle.state.specs.declared.Sending.the-variants as sending
 use Rattle.state.specs.declared.Source.{Source}
-use Rattle.rules.specs.Does.{runs, counts, recordMessage}
+use Rattle.rules.specs.Does.{runs, readies, counts, recordMessage}
 use Rattle.rules.specs.Lens.{measurement, lens}
+use Rattle.rules.specs.Readings.{Untouched}
 
 -- what a command may switch: continuous sending, checksum, inhibit, film, unit, the rate to come
 abbrev pub Switches : Type 0
@@ -72,6 +73,13 @@ module _ (s : Source) where
     pub w-switches : (n : ℕ) → let m = s .modes in switches (runs s (W n) .source) ≡ (m .sending, m .checksum, m .inhibit, n, m .unit, m .«next_rate»)
     pub x-switches : let m = s .modes in switches (runs s X .source) ≡ (m .sending, m .checksum, m .inhibit, m .film, 0x49, m .«next_rate»)
     pub y-switches : let m = s .modes in switches (runs s Y .source) ≡ (m .sending, m .checksum, m .inhibit, m .film, 0x4D, m .«next_rate»)
+    -- in ready "N answers and moves to running", and changes nothing else
+    pub waking-keeps : Untouched s (readies s N .source)
+    pub waking-switches : switches (readies s N .source) ≡ switches s
+    -- the end of a message moves the rate number, and changes nothing else
+    pub ended-rate : lens .ended s .modes .rate ≡ s .modes .«next_rate»
+    pub ended-keeps : (lens .ended s .settings ≡ s .settings) × (lens .ended s .measurement ≡ s .measurement) × (lens .ended s .modes .state ≡ s .modes .state)
+    pub ended-switches : switches (lens .ended s) ≡ switches s
     -- "B, space, version"; "`!`"; "one record"; "`Kb`n`!`"; "tag and name"; "fixed data"; "V or W, then 0.0 and three digits"; "X or Y"; "`?`"
     pub b-answers : runs s B .reply ≡ said (0x42 ∷ 0x20 ∷ s .settings .fixed .version)
     pub c-answers : runs s C .reply ≡ said (0x21 ∷ [])
