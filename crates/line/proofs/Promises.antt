@@ -15,7 +15,7 @@ use Rattle.laws.proofs.Range.{inside, at-least, at-most}
 use Rattle.laws.specs.Within.{within}
 use Rattle.line.specs.Line.{lineLength, joined}
 use Rattle.line.specs.Command.{oneByte, afterK, twoBytes, afterKb, filmOf, afterW, threeBytes, commandIn, commandOf, InRange}
-use Rattle.line.specs.Promises.{lettersOf, heldIn, OfLines}
+use Rattle.line.specs.Promises.{lettersOf, heldIn, Promised}
 use Rattle.line.specs.declared.Line.{Line}
 use Rattle.line.specs.declared.Command.{Command}
 use Rattle.line.specs.declared.Command.the-variants.{B, C, D, G, H, Ka, Kb, Kc, Kd, K3, K4, N, P, «V», W, X, Y, Unknown}
@@ -157,9 +157,9 @@ more : (l : Line) (b : ℕ) → 64 ≤ l .len → joined l b ≡ record { bytes 
 unfolding joined
 more l b h = cond-no _ _ (le-ltb (l .len) lineLength h)
 
-pub of-lines : OfLines
+pub promised : Promised
 unfolding commandIn oneByte
-of-lines = record {
+promised = record {
   known = letters;
   bare-w = refl;
   only = λ s. known-only (spelt s);

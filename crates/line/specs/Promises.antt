@@ -36,7 +36,7 @@ lettersOf Unknown = []
 abbrev pub heldIn : Line → List ℕ
 heldIn l = take (l .len) (l .bytes)
 
-pub record OfLines : Type 0 where
+pub record Promised : Type 0 where
   -- the letters of a command are that command, "n 0..7", "nn 00..31"
   pub known : (c : Command) → InRange c → commandIn (lettersOf c) ≡ c
   -- W alone is film 01

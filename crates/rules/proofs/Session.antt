@@ -7,8 +7,8 @@ use Rattle.fixed.specs.Form.{serial as fixedSerial, owner, lensItems, version, 
 use Rattle.line.specs.Line.{zeros, ends, joined}
 use Rattle.line.specs.Command.{oneByte, afterK, twoBytes, commandIn, commandOf}
 use Rattle.rules.specs.Does.{replies, silent, runs, isN, readies, doesIn, does, countsIn, counts, isOn}
-use Rattle.rules.specs.Session.{Session}
+use Rattle.rules.specs.Session.{SessionExample}
 
-pub session : Session
+pub session-example : SessionExample
 unfolding onSlot begin rules rule2 answer rule3 onByte onReturn onOther digits xorFrom sumOf ending fixedSerial owner lensItems version fixedForm ends joined zeros oneByte afterK twoBytes commandIn commandOf replies silent runs isN readies doesIn does countsIn counts isOn
-session = record { prints = refl }
+session-example = record { prints = refl }
