@@ -70,7 +70,7 @@ past-stays : (p : Port) (out : List ℕ) → drop (fillOf p (length out) .count)
 unfolding fillOf fillLeaves
 past-stays p out =
     let h = run-most p (length out) in
-    told (validPort p) (λ v. rw v (drop-over out (runOf (length out) p .bytes) 0 _ h (omega arith))) (λ f. rw f)
+    told (validPort p) (λ v. rw v (drop-over out (runOf (length out) p .bytes) 0 (length (runOf (length out) p .bytes)) (omega arith) (omega arith))) (λ f. rw f)
 
 then-valid : (t : Sent) (q : Port) (r : Run) → validPort q ≡ true → validPort (r .port) ≡ true → validPort (thenRun t q r .port) ≡ true
 then-valid (sent.Byte b) q r h k = k
