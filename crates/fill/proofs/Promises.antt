@@ -5,8 +5,9 @@ use mathlib.Core.List.{List}
 use mathlib.Core.Logic.{_↔_}
 use mathlib.Core.Path.{_≡_, sym, ap, subst, _∙_}
 use native.Mathlib.Omega.{arith}
-use lib.ListN.{length}
+use lib.ListN.{length, drop}
 use Rattle.laws.proofs.Tests.{cond-yes, cond-no, told, never}
+use Rattle.laws.proofs.OverLaws.{drop-over}
 use Rattle.refusal.specs.declared.Refusal.{Refusal}
 use Rattle.refusal.specs.declared.Refusal.the-variants as refusal
 use Rattle.refusal.specs.declared.Verdict.the-variants.{Done, Refused}
@@ -65,6 +66,12 @@ at-most p n =
     (λ v. subst (λ (x : Filled). x .count ≤ n) (sym (cond-yes _ _ v)) (run-most p n))
     (λ f. subst (λ (x : Filled). x .count ≤ n) (sym (cond-no _ _ f)) (omega arith))
 
+past-stays : (p : Port) (out : List ℕ) → drop (fillOf p (length out) .count) (fillLeaves p out) ≡ drop (fillOf p (length out) .count) out
+unfolding fillOf fillLeaves
+past-stays p out =
+    let h = run-most p (length out) in
+    told (validPort p) (λ v. rw v (drop-over out (runOf (length out) p .bytes) 0 (length (runOf (length out) p .bytes)) (omega arith) (omega arith))) (λ f. rw f)
+
 then-valid : (t : Sent) (q : Port) (r : Run) → validPort q ≡ true → validPort (r .port) ≡ true → validPort (thenRun t q r .port) ≡ true
 then-valid (sent.Byte b) q r h k = k
 then-valid sent.Idle q r h k = h
@@ -90,4 +97,4 @@ unfolding fillOf runOf
 none p = told (validPort p) (λ v. ap (λ (x : Filled). x .count) (cond-yes _ _ v)) (λ n. ap (λ (x : Filled). x .count) (cond-no _ _ n))
 
 pub promised : Promised
-promised = record { by-case = by-case; refused-port = refused-port; refused-bytes = refused-bytes; at-most = at-most; empty = empty; none = none; kept-valid = kept-valid }
+promised = record { by-case = by-case; refused-port = refused-port; refused-bytes = refused-bytes; at-most = at-most; past-stays = past-stays; empty = empty; none = none; kept-valid = kept-valid }

@@ -4,7 +4,7 @@ use mathlib.Core.Bool.{true, false}
 use mathlib.Core.List.{List}
 use mathlib.Core.Logic.{_↔_}
 use mathlib.Core.Path.{_≡_}
-use lib.ListN.{length}
+use lib.ListN.{length, drop}
 use Rattle.refusal.specs.declared.Refusal.{Refusal}
 use Rattle.refusal.specs.declared.Refusal.the-variants as refusal
 use Rattle.refusal.specs.declared.Verdict.the-variants.{Refused}
@@ -20,6 +20,8 @@ pub record Promised : Type 0 where
   pub refused-bytes : (p : Port) (out : List ℕ) (r : Refusal) → fillOf p (length out) .verdict ≡ Refused r → fillLeaves p out ≡ out
   -- it never counts more than the buffer holds
   pub at-most : (p : Port) (n : ℕ) → fillOf p n .count ≤ n
+  -- "bytes past it stay"
+  pub past-stays : (p : Port) (out : List ℕ) → drop (fillOf p (length out) .count) (fillLeaves p out) ≡ drop (fillOf p (length out) .count) out
   -- "The driver's call with an empty buffer runs no slot and returns 0"
   pub empty : (p : Port) → fillOf p 0 .port ≡ p
   pub none : (p : Port) → fillOf p 0 .count ≡ 0

@@ -1,3 +1,4 @@
 pub mod Line
 pub mod Command
+pub mod Promises
 pub mod Contracts

@@ -1,6 +1,6 @@
 -- What the port's entries promise beside their exact answers: statements only. A refusal is given in its case and in no other,
 -- and changes no state; a valid port stays valid.
-use Prim.Native.Nat.{ℕ}
+use Prim.Native.Nat.{ℕ, _+_, _≤_, _<_}
 use mathlib.Core.Bool.{true, false, _&&_}
 use mathlib.Core.Logic.{_↔_, _⊎_, _≢_}
 use mathlib.Core.Path.{_≡_}
@@ -66,3 +66,24 @@ pub record KeptValid : Type 0 where
   pub receive : (p : Port) (l : Line) (b : ℕ) → validPort p ≡ true → validPort (receiveOf p l b .port) ≡ true
   pub line : (p : Port) (l : Line) (b : ℕ) → validLine l ≡ true → validLine (receiveOf p l b .line) ≡ true
   pub measure : (p : Port) (m : Measurement) → validPort p ≡ true → validPort (measureOf p m .port) ≡ true
+
+-- "a count past its buffer or message, or a number, letter or text byte outside its range here": what a state of ours is, part by part
+pub record Ours (p : Port) : Type 0 where
+  pub settings : settingsLowest (p .source .settings) ≡ 0
+  pub measurement : measurementVerdict (p .source .measurement) ≡ Done
+  pub film : p .source .modes .film ≤ 31
+  pub unit : (p .source .modes .unit ≡ 73) ⊎ (p .source .modes .unit ≡ 77)
+  pub rate : p .source .modes .rate ≤ 7
+  pub next-rate : p .source .modes .«next_rate» ≤ 7
+  pub message : p .message .len ≤ 128
+  pub sent : p .message .at ≤ p .message .len
+  pub waiting : p .waiting .line .len ≤ 64
+
+abbrev pub SixteenWhen : Type 0
+SixteenWhen = (p : Port) → (validPort p ≡ true) ↔ Ours p
+
+-- "the rate number changes in the slot of its last byte", and a slot before it changes nothing but the place
+pub record RateWhen : Type 0 where
+  pub last-byte : (p : Port) → validPort p ≡ true → p .message .at + 1 ≡ p .message .len →
+      slotOf p .port .source .modes .rate ≡ p .source .modes .«next_rate»
+  pub before : (p : Port) → validPort p ≡ true → p .message .at + 1 < p .message .len → slotOf p .port .source ≡ p .source

@@ -30,7 +30,9 @@ use Rattle.state.specs.State.{validSource}
 use Rattle.rules.specs.Does.{Outcome, withModes, filmNow, rateNext, rateMoved, unitWith, turned, letterNow, isOn, continuous, replies, silent, runs, isN, wakes, readies, doesIn, does, countsIn, counts}
 use Rattle.rules.specs.Lens.{Given, measurement, measured, updated, Good, longestReply}
 use Rattle.rules.proofs.Valid.{Valid, done-is, valid-told, valid-made, untouched-valid}
-use Rattle.rules.proofs.Readings.{untouched, readings}
+use Rattle.rules.specs.Rows.{Others}
+use Rattle.rules.proofs.Readings.{untouched}
+use Rattle.rules.proofs.Rows.{rows}
 use Rattle.rules.proofs.Lengths.{framed-at-most, items-told, blur-long, fixed-long, record-body}
 
 -- ---- the effects
@@ -167,25 +169,7 @@ readies-sending s c = told (isN c) (λ e. rw e) (λ e. rw e)
 
 -- no command goes back to ready
 runs-state : (s : Source) (c : Command) → runs s c .source .modes .state ≡ s .modes .state
-unfolding runs replies
-runs-state s B = refl
-runs-state s C = refl
-runs-state s D = refl
-runs-state s G = refl
-runs-state s H = refl
-runs-state s Ka = refl
-runs-state s (Kb n) = refl
-runs-state s Kc = refl
-runs-state s Kd = refl
-runs-state s K3 = refl
-runs-state s K4 = refl
-runs-state s N = refl
-runs-state s P = refl
-runs-state s «V» = refl
-runs-state s (W n) = refl
-runs-state s X = refl
-runs-state s Y = refl
-runs-state s Unknown = ap (λ (x : Source). x .modes .state) (readings s .unknown-keeps)
+runs-state s c = ap (λ (x : Others). x .0) (rows s .others-stay c)
 
 -- where what a command answers does not count as a reply, continuous sending is off
 pub uncounted-off : (s : Source) (l : Line) → Good s → counts s l ≡ false → continuous (does s l .source) ≡ false

@@ -1,6 +1,8 @@
 pub mod Does
 pub mod Lens
 pub mod Readings
+pub mod Rows
 pub mod Unread
 pub mod Promise
 pub mod Tight
+pub mod Session

@@ -88,8 +88,8 @@ turns = record {
 }
 
 pub session : Session
-unfolding likeR recordR letterOf digits fixed.serial fixed.owner fixed.lensItems fixed.version fixed.fixedForm
-session = record { measurement = refl; serial = λ letter. refl; letter = refl; n-reply = refl }
+unfolding likeR recordR letterOf
+session = record { measurement = refl; serial = λ letter. refl; letter = refl }
 
 pub numbered : Numbered
 unfolding likeR recordR textR failing first kindOk letterOk digits value readDigits readField fieldSays passed both chained mapped every textOk readTagged pointed joined readPointed stopOk stopText stop readStopText pupilText frontText middleText backText serial textForm fixed.serial fixed.owner fixed.lensItems fixed.version fixed.fixedForm xorFrom sumOf isEnded sums opening ending found afterwards readOf checked roomFor thenWrite writeOf unless andThen byTen dropped back

@@ -48,16 +48,11 @@ likeR focus stop tenth pupil zoom = record {
 unfoldable pub recordR : Record
 recordR = likeR 798 56 5 (pos 23) 0
 
--- "measurement R, unit I, 21 degrees", the serial of R, and I where no start-up letter is given; and what N is answered
+-- "measurement R, unit I, 21 degrees", the serial of R, and I where no start-up letter is given
 pub record Session : Type 0 where
   pub measurement : benchMeasurement ≡ record { unit = 0x49; figures = recordR .figures; temperature = pos 21 }
   pub serial : (letter : ℕ) → benchSettings letter .fixed .serial ≡ recordR .serial
   pub letter : letterOf [] ≡ 0x49
-  -- `NS4050.0093OBENCH`, 26 spaces, `LPN050M050UIT95`, 2 spaces, `B4.34`
-  pub n-reply : fixedForm .print (benchSettings (letterOf []) .fixed) ≡
-      0x4E ∷ 0x53 ∷ 0x34 ∷ 0x30 ∷ 0x35 ∷ 0x30 ∷ 0x2E ∷ 0x30 ∷ 0x30 ∷ 0x39 ∷ 0x33 ∷ 0x4F ∷ 0x42 ∷ 0x45 ∷ 0x4E ∷ 0x43 ∷ 0x48 ∷
-      (replicate 26 0x20
-      ++ 0x4C ∷ 0x50 ∷ 0x4E ∷ 0x30 ∷ 0x35 ∷ 0x30 ∷ 0x4D ∷ 0x30 ∷ 0x35 ∷ 0x30 ∷ 0x55 ∷ 0x49 ∷ 0x54 ∷ 0x39 ∷ 0x35 ∷ 0x20 ∷ 0x20 ∷ 0x42 ∷ 0x34 ∷ 0x2E ∷ 0x33 ∷ 0x34 ∷ [])
 
 -- field i of the packed record, and the pair that fields 3 and 4 share
 abbrev pub packedField : ℕ → Record → List ℕ
