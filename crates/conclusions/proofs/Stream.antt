@@ -23,8 +23,8 @@ use Rattle.frame.proofs.Rooms.{then-refused, room-enough, room-short}
 use Rattle.cutter.specs.Cutter.{cutterLength, Said, invalid, nothing, ended, cutOf, answerBy, leftBySaid, hasEnded, thenRead, wholeIn, wholeLeft}
 use Rattle.cutter.specs.declared.Cutter.{Cutter}
 use Rattle.cutter.proofs.Promises.{promised as cuts}
+use Rattle.cutter.proofs.Nine.{only-9}
 use Rattle.cut_reader.specs.Promises as cut-reads
-use Rattle.cut_reader.proofs.Cut.{said-only}
 use Rattle.layout.specs.Promises.{Unpacks}
 use Rattle.hourheron.specs.Host.{answerOf}
 use Rattle.hourheron.specs.Cuts.{Cuts, CutsRead}
@@ -86,7 +86,7 @@ module _ (make : Answer (List ℕ) → Answer ℕ) (put : Answer (List ℕ) → 
   -- of a message that is too long only 9 is made
   long-only : (r x : Refusal) → cutOf c p .said ≡ ended (refused r) → make (refused r) ≡ refused x → x ≡ TooLong
   long-only r x q e =
-      let f : refused x ≡ refused TooLong = sym e ∙ ap (λ (y : Refusal). make (refused y)) (said-only c p r q) ∙ h .long in
+      let f : refused x ≡ refused TooLong = sym e ∙ ap (λ (y : Refusal). make (refused y)) (only-9 c p r q) ∙ h .long in
       cc
 
   said-16 : (s : Said) → cutOf c p .said ≡ s → answerBy make s ≡ refused State → 161 < c .len
@@ -101,7 +101,7 @@ module _ (make : Answer (List ℕ) → Answer ℕ) (put : Answer (List ℕ) → 
   said-9 invalid q e = never (cc)
   said-9 nothing q e = never (cc)
   said-9 (ended (accepted m)) q e = absurd (h .not-9 m e)
-  said-9 (ended (refused r)) q e = q ∙ ap (λ (x : Refusal). ended (refused x)) (said-only c p r q)
+  said-9 (ended (refused r)) q e = q ∙ ap (λ (x : Refusal). ended (refused x)) (only-9 c p r q)
 
   said-4 : (s : Said) → length (c .bytes) ≡ cutterLength → cutOf c p .said ≡ s → answerBy make s ≡ refused End → ⊥
   unfolding answerBy

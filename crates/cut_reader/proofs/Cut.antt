@@ -1,16 +1,15 @@
 -- What any reader answers to a message that a cutter has all bytes of, and to one that lies whole in its piece. Assumes nothing.
 use Prim.Native.Nat.{ℕ, _+_, _≤_, _<_}
-use mathlib.Core.List.{List, [], _∷_, _++_}
+use mathlib.Core.List.{List, _++_}
 use mathlib.Core.Path.{_≡_, sym, ap, _∙_}
 use native.Mathlib.Omega.{arith}
 use borrow.Author.Tests.{le-leb, lt-leb, leb-true, leb-false}
 use lib.Dec.{leb}
 use lib.ListN.{length, take}
-use Rattle.laws.proofs.Tests.{cond-yes, cond-no, told, never}
+use Rattle.laws.proofs.Tests.{cond-yes, cond-no, told}
 use Rattle.refusal.specs.Answer.{Answer, accepted, refused, unless}
-use Rattle.refusal.specs.declared.Refusal.{Refusal}
 use Rattle.refusal.specs.declared.Refusal.the-variants.{TooLong}
-use Rattle.cutter.specs.Cutter.{cutterLength, validCutter, joined, heldFrom, endsMessage, heldMessage, ended, cutFrom, cutOf, thenRead}
+use Rattle.cutter.specs.Cutter.{cutterLength, heldFrom, heldMessage, thenRead}
 use Rattle.cutter.specs.Stream.{judged}
 use Rattle.cutter.specs.declared.Cutter.{Cutter}
 use Rattle.cutter.proofs.Cuts.{held-small, held-long}
@@ -49,20 +48,3 @@ module _ {A : Type 0} (read : List ℕ → Answer A) where
       (λ e. let h = leb-false _ _ e in ap (thenRead read) (held-long c part (omega arith)) ∙ sym (judged-long part h))
 
 -- ---- what a call says ended
-
--- 9 is all that refuses it
-held-only : (c : Cutter) (r : Refusal) → heldMessage c ≡ refused r → r ≡ TooLong
-unfolding heldMessage unless
-held-only c r e = told (leb (c .len) cutterLength) (λ y. never (cc (rw y at e))) (λ n. cc (rw n at e))
-
-from-only : (p : List ℕ) (c : Cutter) (n : ℕ) (r : Refusal) → cutFrom c n p .said ≡ ended (refused r) → r ≡ TooLong
-unfolding cutFrom
-from-only [] c n r e = never (cc)
-from-only (b ∷ p) c n r e =
-    told (endsMessage c b)
-    (λ y. held-only (joined c b) r (cc (rw y at e)))
-    (λ f. from-only p (joined c b) (n + 1) r (rw f at e))
-
-pub said-only : (c : Cutter) (p : List ℕ) (r : Refusal) → cutOf c p .said ≡ ended (refused r) → r ≡ TooLong
-unfolding cutOf
-said-only c p r e = told (validCutter c) (λ y. from-only p c 0 r (rw y at e)) (λ n. never (cc (rw n at e)))

@@ -23,8 +23,9 @@ use Rattle.cutter.specs.Cutter.{cutterLength, ended, cutOf, thenRead}
 use Rattle.cutter.specs.Stream.{judged}
 use Rattle.cutter.specs.declared.Cutter.{Cutter}
 use Rattle.cutter.proofs.Promises as cuts
+use Rattle.cutter.proofs.Nine.{only-9}
 use Rattle.cut_reader.specs.Promises.{ReadsCut, Promised}
-use Rattle.cut_reader.proofs.Cut.{judged-fits, judged-long, said-only}
+use Rattle.cut_reader.proofs.Cut.{judged-fits, judged-long}
 
 module _ {A : Type 0} (form : Codec A) (rule : A → ℕ) (low : ℕ → Refusal) (plain : ℕ) (places : List Place) (short : plain + 2 ≤ cutterLength)
     (faithful : Faithful form rule low plain) (exact : Refuses form rule low plain places) where
@@ -61,7 +62,7 @@ module _ {A : Type 0} (form : Codec A) (rule : A → ℕ) (low : ℕ → Refusal
       thenRead (readOf form checksum) m ≡ refused End → ⊥
   unfolding thenRead
   never-4 checksum c p (accepted m) long s e = exact .read-when checksum m End .0 e .1 (cuts.promised .each-call .ends-lf-cr c p m long s .0)
-  never-4 checksum c p (refused r) long s e = let k = said-only c p r s in never (cc)
+  never-4 checksum c p (refused r) long s e = let k = only-9 c p r s in never (cc)
 
   reads-cut : ReadsCut form rule plain places
   reads-cut = record {

@@ -5,7 +5,7 @@ use native.Mathlib.Omega.{arith}
 use mathlib.Core.Bool.{true}
 use mathlib.Core.List.{List, [], _∷_, _++_, append-assoc, append-nil}
 use mathlib.Core.Path.{_≡_, refl, sym, ap, ap₂, subst, _∙_}
-use borrow.Author.Tests.{lt-ltb, le-ltb, ne-eqb}
+use borrow.Author.Tests.{le-ltb, ne-eqb}
 use lib.Dec.{eqb}
 use lib.ListN.{length, getD, take, drop, set, length-append}
 use lib.Seq.{drop-cons}
@@ -18,6 +18,7 @@ use Rattle.state.specs.declared.Source.{Source}
 use Rattle.state.specs.State.{messageLength}
 use Rattle.port.proofs.Sent.{the-type}
 use Rattle.port.proofs.Promises.{kept-valid}
+use Rattle.port.proofs.State.{under-way}
 use Rattle.port.proofs.Valid.{message-valid, message-low}
 use Rattle.port.specs.declared.Port.{Port}
 use Rattle.port.specs.declared.Slotted.{Slotted}
@@ -60,10 +61,6 @@ then-sends {p} {q} {t} {n} {k} {xs} {ys} a b = record {
 }
 
 -- ---- the message under way
-
-under-way : (p : Port) → validPort p ≡ true → p .message .at < p .message .len → slotOf p ≡ sendFrom p (p .message .at)
-unfolding slotOf
-under-way p v h = cond-yes _ _ v ∙ cond-yes _ _ (lt-ltb _ _ h)
 
 -- where none is, the rules choose
 pub chooses : (p : Port) → validPort p ≡ true → p .message .at ≡ p .message .len → chooseOf p ≡ slotOf p

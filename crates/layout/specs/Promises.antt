@@ -1,7 +1,7 @@
 -- What the bytes of a record and of fixed data say to a C host. Statements only: proofs/Promises.antt proves each.
 -- `rule` is the lowest field or item out of range: 0 where the contents are sendable.
 use Prim.Native.Nat.{ℕ}
-use mathlib.Core.List.{List, [], _∷_, _++_}
+use mathlib.Core.List.{List, _∷_, _++_}
 use mathlib.Core.Path.{_≡_}
 use lib.IntN.{negsuc}
 use lib.ListN.{length, replicate}

@@ -1,19 +1,17 @@
 -- The promises of the owner's part, by where the form writes the owner. Assumes nothing.
 use Prim.Native.Nat.{ℕ, zero, suc, _+_, _-_, _≤_, _<_}
-use mathlib.Core.Bool.{Bool, true, false}
+use mathlib.Core.Bool.{true, false}
 use mathlib.Core.List.{List, _∷_, _++_, append-assoc}
-use mathlib.Core.Path.{_≡_, sym, ap, subst, _∙_}
+use mathlib.Core.Path.{_≡_, sym, ap, _∙_}
 use native.Mathlib.Nat.{zero-add}
 use native.Mathlib.Omega.{arith}
 use borrow.Author.Tests.{eqb-true, eqb-false, ltb-true, ltb-false}
 use lib.Dec.{eqb, ltb}
 use lib.ListN.{length, getD, take, drop}
 use lib.Seq.{take-take, take-at, drop-append-add}
-use denote.Ref.{RefT}
 use Rattle.laws.proofs.Tests.{told}
-use Rattle.refusal.specs.Answer.{Answer, accepted, refused}
+use Rattle.refusal.specs.Answer.{accepted, refused}
 use Rattle.frame.specs.Frame.{ending}
-use Rattle.frame.specs.Message.{readOf}
 use Rattle.frame.proofs.Exactly.{reads-only, one-message}
 use Rattle.fixed.specs.Fixed.{lensIn}
 use Rattle.fixed.specs.Form.{serial, owner, lensItems, version, fixedForm}
@@ -21,7 +19,6 @@ use Rattle.fixed.specs.declared.Fixed.{Fixed}
 use Rattle.fixed.proofs.Exact.{fixed-form-exact, fixed-once, fixed-lowest}
 use Rattle.fixed.proofs.Given.{items-long}
 use Rattle.nreader.specs.Reader.{unspaced, trimmed, PartBy}
-use Rattle.nreader.specs.Contracts.{OwnerPart}
 use Rattle.nreader.specs.Promises.{OwnersName, AcceptedPart, RefusedPart, OnlySpaces, AllSpaces}
 use Rattle.nreader.proofs.Owner.{unspaced-low, part-by}
 

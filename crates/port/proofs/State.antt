@@ -55,17 +55,17 @@ pub sixteen-when : SixteenWhen
 sixteen-when p = (told-ours p, made-ours p)
 
 -- a slot of a message under way
-sends : (p : Port) → validPort p ≡ true → p .message .at < p .message .len → slotOf p ≡ sendFrom p (p .message .at)
+pub under-way : (p : Port) → validPort p ≡ true → p .message .at < p .message .len → slotOf p ≡ sendFrom p (p .message .at)
 unfolding slotOf
-sends p v h = cond-yes _ _ v ∙ cond-yes _ _ (lt-ltb _ _ h)
+under-way p v h = cond-yes _ _ v ∙ cond-yes _ _ (lt-ltb _ _ h)
 
 pub rate-when : RateWhen
 unfolding sendFrom movedIf
 rate-when = record {
   last-byte = λ p v e.
-      ap (λ (x : Slotted). x .port .source .modes .rate) (sends p v (omega arith))
+      ap (λ (x : Slotted). x .port .source .modes .rate) (under-way p v (omega arith))
       ∙ ap (λ (s : Source). s .modes .rate) (cond-yes _ _ (eq-eqb (p .message .at + 1) (p .message .len) e));
   before = λ p v h.
-      ap (λ (x : Slotted). x .port .source) (sends p v (omega arith))
+      ap (λ (x : Slotted). x .port .source) (under-way p v (omega arith))
       ∙ cond-no _ _ (ne-eqb (p .message .at + 1) (p .message .len) (omega arith));
 }
