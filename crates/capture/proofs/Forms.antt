@@ -12,9 +12,9 @@ use Rattle.laws.proofs.Range.{inside}
 use Rattle.laws.proofs.Tests.{cond-yes, cond-no, and-both, and-fails}
 use Rattle.units.specs.declared.Measurement.{Measurement}
 use Rattle.capture.specs.Words.{space, behind, word, spaces, sole}
-use Rattle.capture.specs.Numbers.{isValue, valueIn, isWhole, valueOf}
+use Rattle.capture.specs.Numbers.{isValue, wholeValue, isWhole, wordValue}
 use Rattle.capture.specs.Capture.{receivedOf, slotsBy, slotsOf, isLetter, numberWords, isMeasurement, figuresAt, measurementAt, eventOf}
-use Rattle.capture.specs.Promises.{SaysByte, SaysSlots, Signed, Letter, Spaced, none, next, figuresOf, SaysMeasurement}
+use Rattle.capture.specs.Promises.{SaysByte, SaysSlots, Signed, Letter, Spaced, none, next, figuresFrom, SaysMeasurement}
 use Rattle.capture.specs.declared.Event.the-variants.{Received, Slots, Measured}
 use Rattle.capture.proofs.Words.{joined-spaces, joined-word, joined-behind, behind-suc, behind-next, word-next, word-behind, word-alone, led-spaces, led-byte, led-word}
 use Rattle.capture.proofs.Numbers.{numbers-more}
@@ -76,12 +76,12 @@ slot-reads s n r =
 whole-true : {w : List ℕ} {z : ℤ} → Signed w z → isWhole w ≡ true
 whole-true p = ap isValue (whole-reads p)
 
-whole-value : {w : List ℕ} {z : ℤ} → Signed w z → valueOf w ≡ z
-whole-value p = ap valueIn (whole-reads p)
+whole-value : {w : List ℕ} {z : ℤ} → Signed w z → wordValue w ≡ z
+whole-value p = ap wholeValue (whole-reads p)
 
 numbers-next : (n i : ℕ) (s : List ℕ) → numbersAt n (suc i) s ≡ numbersAt n i (behind 1 s)
 numbers-next zero i s = refl
-numbers-next (suc n) i s = ap₂ _∷_ (ap valueOf (word-next i s)) (numbers-next n (suc i) s)
+numbers-next (suc n) i s = ap₂ _∷_ (ap wordValue (word-next i s)) (numbers-next n (suc i) s)
 
 -- what n numbers at the start of s come to
 record Found (s : List ℕ) (zs : List ℤ) (t : List ℕ) : Type 0 where
@@ -103,7 +103,7 @@ module _ {w s t : List ℕ} {z : ℤ} {zs : List ℤ} (p : Signed w z) (r : Foun
       record {
         count = omega (arith, joined-spaces s w free, r .count);
         rest = behind-next (length zs) (w ++ space ∷ s) ∙ ap (behind (length zs)) b ∙ r .rest;
-        numbers = ap₂ _∷_ (ap valueOf (joined-word s w free) ∙ whole-value p) (numbers-next (length zs) 0 (w ++ space ∷ s) ∙ ap (numbersAt (length zs) 0) b ∙ r .numbers);
+        numbers = ap₂ _∷_ (ap wordValue (joined-word s w free) ∙ whole-value p) (numbers-next (length zs) 0 (w ++ space ∷ s) ∙ ap (numbersAt (length zs) 0) b ∙ r .numbers);
         each = found-each;
       }
 
@@ -165,16 +165,16 @@ module _ (front : List ℕ) {zs : List ℤ} {u : ℕ} {text : List ℕ} {z : ℤ
       (and-both eleven-numbers
       (and-both (ap isLetter sole-unit ∙ letter-reads u l) (ap isWhole last-word ∙ whole-true q)))
 
-  figures-are : figuresAt line ≡ figuresOf zs
-  unfolding figuresAt figuresOf
-  figures-are = ap figuresOf the-numbers
+  figures-are : figuresAt line ≡ figuresFrom zs
+  unfolding figuresAt figuresFrom
+  figures-are = ap figuresFrom the-numbers
 
-  line-says : _≡_ {A = Measurement} (measurementAt line) (record { unit = u; figures = figuresOf zs; temperature = z })
+  line-says : _≡_ {A = Measurement} (measurementAt line) (record { unit = u; figures = figuresFrom zs; temperature = z })
   unfolding measurementAt
   line-says = λ i. record {
     unit = sole-unit i;
     figures = figures-are i;
-    temperature = (ap valueOf last-word ∙ whole-value q) i;
+    temperature = (ap wordValue last-word ∙ whole-value q) i;
   }
 
   line-reads : eventOf line ≡ Measured (measurementAt line)

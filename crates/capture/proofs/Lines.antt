@@ -16,9 +16,9 @@ use Rattle.laws.proofs.Tests.{told, never, by, and-left, and-right}
 use Rattle.digits.specs.declared.Field.{Field}
 use Rattle.digits.specs.declared.Field.the-variants as field
 use Rattle.capture.specs.Words.{space, behind, word, spaces, sole}
-use Rattle.capture.specs.Numbers.{hexValue, numberOf, wholeOf, isValue, valueIn, isWhole, valueOf}
+use Rattle.capture.specs.Numbers.{hexValue, digitsOf, wholeOf, isValue, wholeValue, isWhole, wordValue}
 use Rattle.capture.specs.Capture.{receivedOf, slotsBy, isLetter, numberWords, isMeasurement, figuresAt, measurementAt, eventOf}
-use Rattle.capture.specs.Promises.{SaysByte, SaysSlots, Spaced, none, next, figuresOf, SaysMeasurement}
+use Rattle.capture.specs.Promises.{SaysByte, SaysSlots, Spaced, none, next, figuresFrom, SaysMeasurement}
 use Rattle.capture.specs.declared.Event.{Event}
 use Rattle.capture.specs.declared.Event.the-variants.{Received, Slots, Measured, Other}
 use Rattle.capture.specs.declared.Whole.{Whole}
@@ -64,7 +64,7 @@ received-says s w e =
     })
     (λ t. tt)
 
-slots-says : (s w : List ℕ) → s ≡ 83 ∷ space ∷ w → (f : Field) → numberOf w ≡ f → Says s (slotsBy f)
+slots-says : (s w : List ℕ) → s ≡ 83 ∷ space ∷ w → (f : Field) → digitsOf w ≡ f → Says s (slotsBy f)
 unfolding slotsBy
 slots-says s w e field.Wrong r = tt
 slots-says s w e (field.Value n) r =
@@ -77,9 +77,9 @@ slots-says s w e (field.Value n) r =
 -- the numbers of n words from the word i on
 abbrev pub numbersAt : ℕ → ℕ → List ℕ → List ℤ
 numbersAt zero i s = []
-numbersAt (suc n) i s = valueOf (word i s) ∷ numbersAt n (suc i) s
+numbersAt (suc n) i s = wordValue (word i s) ∷ numbersAt n (suc i) s
 
-value-in : (x : Whole) → isValue x ≡ true → x ≡ Value (valueIn x)
+value-in : (x : Whole) → isValue x ≡ true → x ≡ Value (wholeValue x)
 value-in (Value n) h = refl
 value-in Wrong h = never (cc)
 
@@ -130,12 +130,12 @@ ends-in s t =
     ∙ ap (λ (w : List ℕ). sole (word 12 s) ∷ space ∷ w) (sym (word-last 13 s (spaces-behind 13 0 s (t .count))))
 
 measurement-says : (s : List ℕ) → sole (word 0 s) ≡ 77 → Tested s → SaysMeasurement s (measurementAt s)
-unfolding measurementAt figuresAt figuresOf
+unfolding measurementAt figuresAt figuresFrom
 measurement-says s kind t = record {
   numbers = numbersAt 11 1 s;
   unit = sole (word 12 s);
   text = word 13 s;
-  temperature = valueOf (word 13 s);
+  temperature = wordValue (word 13 s);
   front = behind 1 s;
   is = leads s (omega (arith, t .count)) (omega arith) ∙ ap (λ (x : ℕ). x ∷ space ∷ behind 1 s) kind;
   eleven = refl;
@@ -157,7 +157,7 @@ says s =
     let pair = eqb (spaces s) 1 in
     by (Says s) (eqb kind 82 && pair) _ _ (λ t. received-says s (word 1 s) (pair-is 82 s (omega arith) t))
     (λ _.
-    by (Says s) (eqb kind 83 && pair) _ _ (λ t. slots-says s (word 1 s) (pair-is 83 s (omega arith) t) (numberOf (word 1 s)) refl)
+    by (Says s) (eqb kind 83 && pair) _ _ (λ t. slots-says s (word 1 s) (pair-is 83 s (omega arith) t) (digitsOf (word 1 s)) refl)
     (λ _.
     by (Says s) (eqb kind 77 && isMeasurement s) _ _
     (λ t. measurement-says s (eqb-true kind 77 (and-left (eqb kind 77) (isMeasurement s) t)) (tested s (and-right (eqb kind 77) (isMeasurement s) t)))

@@ -13,25 +13,25 @@ use Rattle.sign.specs.Sign.{size, below0}
 use Rattle.digits.specs.Digits.{readDecimal}
 use Rattle.digits.specs.declared.Field.the-variants as field
 use Rattle.digits.proofs.Laws.{digits-read}
-use Rattle.capture.specs.Numbers.{nineDigits, numberOf, signedBy, wholeOf, isWhole, beyond, fieldOf}
+use Rattle.capture.specs.Numbers.{nineDigits, digitsOf, wholeBy, wholeOf, isWhole, beyond, fieldFor}
 use Rattle.capture.specs.Words.{word}
 use Rattle.capture.specs.Capture.{numberWords}
 use Rattle.capture.specs.declared.Whole.the-variants.{Wrong}
 
 -- ---- digits
 
-pub number-none : (w : List ℕ) → length w ≡ 0 → field.Wrong ≡ numberOf w
-unfolding numberOf
+pub number-none : (w : List ℕ) → length w ≡ 0 → field.Wrong ≡ digitsOf w
+unfolding digitsOf
 number-none [] e = refl
 number-none (d ∷ w) e = absurd (omega arith)
 
-pub number-some : (w : List ℕ) → (length w ≡ 0 → ⊥) → readDecimal nineDigits w ≡ numberOf w
-unfolding numberOf
+pub number-some : (w : List ℕ) → (length w ≡ 0 → ⊥) → readDecimal nineDigits w ≡ digitsOf w
+unfolding digitsOf
 number-some [] e = absurd (e refl)
 number-some (d ∷ w) e = refl
 
-pub number-low : (w : List ℕ) (n : ℕ) → numberOf w ≡ field.Value n → n ≤ nineDigits
-unfolding numberOf
+pub number-low : (w : List ℕ) (n : ℕ) → digitsOf w ≡ field.Value n → n ≤ nineDigits
+unfolding digitsOf
 number-low [] n e = never (cc)
 number-low (d ∷ w) n e = digits-read 10 48 (omega arith) (d ∷ w) n nineDigits e .0
 
@@ -42,23 +42,23 @@ unfolding wholeOf
 whole-none [] e = refl
 whole-none (b ∷ w) e = absurd (omega arith)
 
-pub whole-minus : (w : List ℕ) → getD w 0 0 ≡ 45 → wholeOf w ≡ signedBy true (numberOf (drop 1 w))
+pub whole-minus : (w : List ℕ) → getD w 0 0 ≡ 45 → wholeOf w ≡ wholeBy true (digitsOf (drop 1 w))
 unfolding wholeOf
 whole-minus [] e = absurd (omega arith)
 whole-minus (b ∷ w) e = rw (eq-eqb _ _ e)
 
-pub whole-plain : (w : List ℕ) → (length w ≡ 0 → ⊥) → (getD w 0 0 ≡ 45 → ⊥) → wholeOf w ≡ signedBy false (numberOf w)
+pub whole-plain : (w : List ℕ) → (length w ≡ 0 → ⊥) → (getD w 0 0 ≡ 45 → ⊥) → wholeOf w ≡ wholeBy false (digitsOf w)
 unfolding wholeOf
 whole-plain [] some e = absurd (some refl)
 whole-plain (b ∷ w) some e = rw (ne-eqb _ _ e)
 
 -- ---- what a field is handed
 
-pub field-below : (z : ℤ) → below0 z ≡ true → beyond ≡ fieldOf z
+pub field-below : (z : ℤ) → below0 z ≡ true → beyond ≡ fieldFor z
 field-below (pos n) e = absurd (false≢true e)
 field-below (negsuc n) e = refl
 
-pub field-size : (z : ℤ) → below0 z ≡ false → size z ≡ fieldOf z
+pub field-size : (z : ℤ) → below0 z ≡ false → size z ≡ fieldFor z
 field-size (pos n) e = refl
 field-size (negsuc n) e = absurd (false≢true (sym e))
 

@@ -20,15 +20,15 @@ use Rattle.digits.specs.declared.Field.{Field}
 use Rattle.digits.specs.declared.Field.the-variants as field
 use Rattle.digits.proofs.Laws.{value-lt}
 use Rattle.capture.specs.Words.{space, spaces}
-use Rattle.capture.specs.Numbers.{hexValue, nineDigits, numberOf, signedBy, wholeOf}
+use Rattle.capture.specs.Numbers.{hexValue, nineDigits, digitsOf, wholeBy, wholeOf}
 use Rattle.capture.specs.Capture.{isLetter}
 use Rattle.capture.specs.Promises.{Hex, Number, Signed, plain, minus, Letter}
 use Rattle.capture.specs.declared.Whole.the-variants.{Value, Wrong}
 
 -- ---- digits
 
-pub number-is : (w : List ℕ) (n : ℕ) → numberOf w ≡ field.Value n → Number w n
-unfolding numberOf readField readDigits
+pub number-is : (w : List ℕ) (n : ℕ) → digitsOf w ≡ field.Value n → Number w n
+unfolding digitsOf readField readDigits
 number-is [] n e = never (cc)
 number-is (d ∷ w) n e =
     let s = d ∷ w in
@@ -46,8 +46,8 @@ number-is (d ∷ w) n e =
     (λ wrong. let z : field.Wrong ≡ field.Value n = rw (short, wrong) at e in never (cc)))
     (λ long. let z : field.Wrong ≡ field.Value n = rw long at e in never (cc))
 
-pub number-reads : (w : List ℕ) (n : ℕ) → Number w n → numberOf w ≡ field.Value n
-unfolding numberOf readField readDigits
+pub number-reads : (w : List ℕ) (n : ℕ) → Number w n → digitsOf w ≡ field.Value n
+unfolding digitsOf readField readDigits
 number-reads [] n r = absurd (let h = r .some in omega arith)
 number-reads (d ∷ w) n r =
     let s = d ∷ w in
@@ -68,7 +68,7 @@ digits-free (d ∷ w) h =
 
 -- ---- a minus before them or none
 
-signed-value : (below : Bool) (f : Field) (z : ℤ) → signedBy below f ≡ Value z → (n : ℕ) × (f ≡ field.Value n) × (signedOf below n ≡ z)
+signed-value : (below : Bool) (f : Field) (z : ℤ) → wholeBy below f ≡ Value z → (n : ℕ) × (f ≡ field.Value n) × (signedOf below n ≡ z)
 signed-value below (field.Value n) z e = (n, refl, cc)
 signed-value below field.Wrong z e = never (cc)
 
@@ -78,10 +78,10 @@ whole-is [] z e = never (cc)
 whole-is (b ∷ s) z e =
     told (eqb b 45)
     (λ t.
-    let r = signed-value true (numberOf s) z (rw t at e) in
+    let r = signed-value true (digitsOf s) z (rw t at e) in
     rw (eqb-true b 45 t, ← r .2) (minus (number-is s (r .0) (r .1))))
     (λ t.
-    let r = signed-value false (numberOf (b ∷ s)) z (rw t at e) in
+    let r = signed-value false (digitsOf (b ∷ s)) z (rw t at e) in
     rw (← r .2) (plain (number-is (b ∷ s) (r .0) (r .1))))
 
 plain-reads : (w : List ℕ) (n : ℕ) → Number w n → wholeOf w ≡ Value (pos n)

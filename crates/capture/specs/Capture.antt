@@ -10,7 +10,7 @@ use Rattle.digits.specs.declared.Field.the-variants as field
 use Rattle.record.specs.declared.Figures.{Figures}
 use Rattle.units.specs.declared.Measurement.{Measurement}
 use Rattle.capture.specs.Words.{word, spaces, sole}
-use Rattle.capture.specs.Numbers.{hexValue, numberOf, isWhole, valueOf, fieldOf}
+use Rattle.capture.specs.Numbers.{hexValue, digitsOf, isWhole, wordValue, fieldFor}
 use Rattle.capture.specs.declared.Event.{Event}
 use Rattle.capture.specs.declared.Event.the-variants.{Received, Slots, Measured, Other}
 
@@ -27,7 +27,7 @@ slotsBy (field.Value n) = cond (within 1 999 n) (Slots n) Other
 slotsBy field.Wrong = Other
 
 abbrev pub slotsOf : List ℕ → Event
-slotsOf w = slotsBy (numberOf w)
+slotsOf w = slotsBy (digitsOf w)
 
 -- A..Z, a..z
 unfoldable pub isLetter : ℕ → Bool
@@ -43,7 +43,7 @@ unfoldable pub isMeasurement : List ℕ → Bool
 isMeasurement s = eqb (spaces s) 13 && (numberWords 11 s && (isLetter (sole (word 12 s)) && isWhole (word 13 s)))
 
 abbrev pub fieldAt : ℕ → List ℕ → ℕ
-fieldAt k s = fieldOf (valueOf (word k s))
+fieldAt k s = fieldFor (wordValue (word k s))
 
 -- fields 1 to 11
 unfoldable pub figuresAt : List ℕ → Figures
@@ -57,12 +57,12 @@ figuresAt s = record {
   near = fieldAt 7 s;
   far = fieldAt 8 s;
   view = fieldAt 9 s;
-  pupil = valueOf (word 10 s);
+  pupil = wordValue (word 10 s);
   zoom = fieldAt 11 s;
 }
 
 unfoldable pub measurementAt : List ℕ → Measurement
-measurementAt s = record { unit = sole (word 12 s); figures = figuresAt s; temperature = valueOf (word 13 s) }
+measurementAt s = record { unit = sole (word 12 s); figures = figuresAt s; temperature = wordValue (word 13 s) }
 
 -- the event that a line tells: R (82), S (83), M (77)
 unfoldable pub eventOf : List ℕ → Event

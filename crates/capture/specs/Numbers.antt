@@ -23,38 +23,38 @@ abbrev pub nineDigits : ℕ
 nineDigits = 999999999
 
 -- 1 to 9 digits, leading zeros allowed
-unfoldable pub numberOf : List ℕ → Field
-numberOf [] = field.Wrong
-numberOf (d ∷ s) = readDecimal nineDigits (d ∷ s)
+unfoldable pub digitsOf : List ℕ → Field
+digitsOf [] = field.Wrong
+digitsOf (d ∷ s) = readDecimal nineDigits (d ∷ s)
 
-abbrev pub signedBy : Bool → Field → Whole
-signedBy below (field.Value n) = Value (signedOf below n)
-signedBy below field.Wrong = Wrong
+abbrev pub wholeBy : Bool → Field → Whole
+wholeBy below (field.Value n) = Value (signedOf below n)
+wholeBy below field.Wrong = Wrong
 
 -- "a minus only in M, before the digits and not counted" (45 is the minus)
 unfoldable pub wholeOf : List ℕ → Whole
 wholeOf [] = Wrong
-wholeOf (b ∷ s) = cond (eqb b 45) (signedBy true (numberOf s)) (signedBy false (numberOf (b ∷ s)))
+wholeOf (b ∷ s) = cond (eqb b 45) (wholeBy true (digitsOf s)) (wholeBy false (digitsOf (b ∷ s)))
 
 abbrev pub isValue : Whole → Bool
 isValue (Value n) = true
 isValue Wrong = false
 
-abbrev pub valueIn : Whole → ℤ
-valueIn (Value n) = n
-valueIn Wrong = pos 0
+abbrev pub wholeValue : Whole → ℤ
+wholeValue (Value n) = n
+wholeValue Wrong = pos 0
 
 abbrev pub isWhole : List ℕ → Bool
 isWhole w = isValue (wholeOf w)
 
 -- the number that a word is; 0 where it is none
-abbrev pub valueOf : List ℕ → ℤ
-valueOf w = valueIn (wholeOf w)
+abbrev pub wordValue : List ℕ → ℤ
+wordValue w = wholeValue (wholeOf w)
 
 -- a field that holds no number below zero is handed one that is more than any field holds
 abbrev pub beyond : ℕ
 beyond = 4294967295
 
-abbrev pub fieldOf : ℤ → ℕ
-fieldOf (pos n) = n
-fieldOf (negsuc n) = beyond
+abbrev pub fieldFor : ℤ → ℕ
+fieldFor (pos n) = n
+fieldFor (negsuc n) = beyond

@@ -74,8 +74,8 @@ given (pos n) = n
 given (negsuc n) = 4294967295
 
 -- fields 1 to 11, in their order; the pupil's offset may be below zero
-unfoldable pub figuresOf : List ℤ → Figures
-figuresOf zs = record {
+unfoldable pub figuresFrom : List ℤ → Figures
+figuresFrom zs = record {
   focus = given (getD zs 0 (pos 0));
   aperture = given (getD zs 1 (pos 0));
   stop = given (getD zs 2 (pos 0));
@@ -101,7 +101,7 @@ pub record SaysMeasurement (s : List ℕ) (m : Measurement) : Type 0 where
   pub spaced : Spaced front numbers (unit ∷ 32 ∷ text)
   pub letter : Letter unit
   pub last : Signed text temperature
-  pub says : m ≡ record { unit = unit; figures = figuresOf numbers; temperature = temperature }
+  pub says : m ≡ record { unit = unit; figures = figuresFrom numbers; temperature = temperature }
 
 -- one of the fields that hold no number below zero was given one
 abbrev pub Beyond : Figures → Type 0

@@ -6,7 +6,7 @@ ghost use mathlib.Core.Path.{_≡_};
 ghost use Prim.Native.Nat.{_≤_};
 ghost use Rattle.sign.specs.Sign.{signedOf};
 ghost use Rattle.capture.specs.Words.{StartsWord, word, spaces, sole};
-ghost use Rattle.capture.specs.Numbers.{hexValue, numberOf, signedBy, wholeOf, isWhole, valueOf, fieldOf};
+ghost use Rattle.capture.specs.Numbers.{hexValue, digitsOf, wholeBy, wholeOf, isWhole, wordValue, fieldFor};
 ghost use Rattle.capture.specs.Capture.{receivedOf, slotsOf, numberWords, isLetter, figuresAt, isMeasurement};
 ghost use Rattle.capture.specs.Contracts.{BytesBefore, EventOf};
 
@@ -123,8 +123,8 @@ fn hex_value(digit: u8) -> u8
 }
 
 // 1 to 9 digits.
-fn number_of(word: &[u8]) -> Field
-    ensures { λ r. ⌜ r ≡ numberOf (now (word .entry)) ⌝ }
+fn digits_of(word: &[u8]) -> Field
+    ensures { λ r. ⌜ r ≡ digitsOf (now (word .entry)) ⌝ }
 {
     if word.len() == 0 {
         return Field::Wrong;
@@ -143,9 +143,9 @@ fn signed(below: bool, n: u32) -> i32
 
 // 1 to 9 digits with this sign before them.
 fn signed_number(below: bool, word: &[u8]) -> Whole
-    ensures { λ r. ⌜ r ≡ signedBy below (numberOf (now (word .entry))) ⌝ }
+    ensures { λ r. ⌜ r ≡ wholeBy below (digitsOf (now (word .entry))) ⌝ }
 {
-    let Field::Value(n) = number_of(word) else {
+    let Field::Value(n) = digits_of(word) else {
         return Whole::Wrong;
     };
     Whole::Value(signed(below, n))
@@ -175,8 +175,8 @@ fn is_whole(word: &[u8]) -> bool
 }
 
 // The number that a word is; 0 where it is none.
-fn value_of(word: &[u8]) -> i32
-    ensures { λ r. ⌜ r ≡ valueOf (now (word .entry)) ⌝ }
+fn word_value(word: &[u8]) -> i32
+    ensures { λ r. ⌜ r ≡ wordValue (now (word .entry)) ⌝ }
 {
     let whole = whole_of(word);
     match whole {
@@ -186,8 +186,8 @@ fn value_of(word: &[u8]) -> i32
 }
 
 // What a field that holds no number below zero is handed.
-fn field_of(n: i32) -> u32
-    ensures { λ r. ⌜ r ≡ fieldOf n ⌝ }
+fn field_for(n: i32) -> u32
+    ensures { λ r. ⌜ r ≡ fieldFor n ⌝ }
 {
     if sign::is_below(n) {
         return BEYOND;
@@ -218,7 +218,7 @@ fn received_of(word: &[u8]) -> Event
 fn slots_of(word: &[u8]) -> Event
     ensures { λ r. ⌜ r ≡ slotsOf (now (word .entry)) ⌝ }
 {
-    let Field::Value(n) = number_of(word) else {
+    let Field::Value(n) = digits_of(word) else {
         return Event::Other;
     };
     if n == 0 {
@@ -273,9 +273,9 @@ fn is_measurement(line: &[u8]) -> bool
 
 // The field that the word behind k spaces gives.
 fn field_at(line: &[u8], k: usize) -> u32
-    ensures { λ r. ⌜ r ≡ fieldOf (valueOf (word k (now (line .entry)))) ⌝ }
+    ensures { λ r. ⌜ r ≡ fieldFor (wordValue (word k (now (line .entry)))) ⌝ }
 {
-    field_of(value_of(word(line, k)))
+    field_for(word_value(word(line, k)))
 }
 
 // Fields 1 to 11.
@@ -292,7 +292,7 @@ fn figures_at(line: &[u8]) -> Figures
         near: field_at(line, 7),
         far: field_at(line, 8),
         view: field_at(line, 9),
-        pupil: value_of(word(line, 10)),
+        pupil: word_value(word(line, 10)),
         zoom: field_at(line, 11),
     }
 }
@@ -318,6 +318,6 @@ pub fn event_of(line: &[u8]) -> Event
     Event::Measured(Measurement {
         unit: sole_byte(word(line, 12)),
         figures: figures_at(line),
-        temperature: value_of(word(line, 13)),
+        temperature: word_value(word(line, 13)),
     })
 }

@@ -16,7 +16,7 @@ use Rattle.laws.proofs.Tests.{told, never, cond-yes, cond-no}
 use Rattle.digits.specs.Digits.{readField, widest}
 use Rattle.digits.specs.declared.Field.{Field}
 use Rattle.digits.specs.declared.Field.the-variants.{Value, Wrong}
-use Rattle.codec.specs.Codec.{Got, got, wrong, Codec, spellings, passed, both, mapped, chained, fieldSays, number, printable, text, letter, begins, tagged, _⊗_, viaIso, through}
+use Rattle.codec.specs.Codec.{Got, got, wrong, Codec, spellings, passed, both, mapped, chained, fieldSays, number, printable, text, letter, startsWith, tagged, _⊗_, viaIso, through}
 use Rattle.codec.specs.Places.{Place, alone, further, fieldOf, Spelt, FirstWrong}
 use Rattle.codec.proofs.Exact.{Exact, spelt-read, Codes, fine, first-zero, zero-first, number-exact, text-exact, letter-exact, tagged-exact, ⊗-exact, iso-exact, through-exact}
 use Rattle.codec.proofs.Spellings.{each-in, in-each}
@@ -99,7 +99,7 @@ tagged-alone t i c u = record {
   exact = tagged-exact t i c (u .exact);
   some = u .some;
   says = λ s j e.
-      told (begins t s)
+      told (startsWith t s)
       (λ y. u .says (drop 1 s) j (sym (cond-yes (c .parse (drop 1 s)) (wrong i) y) ∙ e))
       (λ n. let z : wrong i ≡ wrong j = sym (cond-no (c .parse (drop 1 s)) (wrong i) n) ∙ e in cc);
 }

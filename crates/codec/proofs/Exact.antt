@@ -17,7 +17,7 @@ use Rattle.digits.specs.Digits.{digits, readField, widest}
 use Rattle.digits.specs.declared.Field.{Field}
 use Rattle.digits.specs.declared.Field.the-variants.{Value, Wrong}
 use Rattle.digits.proofs.Laws.{length-digits, read-digits, digits-read}
-use Rattle.codec.specs.Codec.{Got, got, wrong, Codec, spellings, each, passed, failing, first, both, mapped, chained, fieldSays, number, printable, text, letter, begins, tagged, _⊗_, viaIso, through}
+use Rattle.codec.specs.Codec.{Got, got, wrong, Codec, spellings, each, passed, failing, first, both, mapped, chained, fieldSays, number, printable, text, letter, startsWith, tagged, _⊗_, viaIso, through}
 use Rattle.codec.proofs.Spellings.{each-in, in-each, all-in, in-all}
 use Rattle.codec.proofs.Texts.{text-long, text-printable, text-fine}
 
@@ -143,7 +143,7 @@ letter-exact i ok = record {
 
 -- ---- the ways to make one of others
 
-behind-tag : {A : Type 0} (t i : ℕ) (c : Codec A) (s : List ℕ) (a : A) → cond (begins t s) (c .parse (drop 1 s)) (wrong i) ≡ got a → (s ≡ t ∷ drop 1 s) × (c .parse (drop 1 s) ≡ got a)
+behind-tag : {A : Type 0} (t i : ℕ) (c : Codec A) (s : List ℕ) (a : A) → cond (startsWith t s) (c .parse (drop 1 s)) (wrong i) ≡ got a → (s ≡ t ∷ drop 1 s) × (c .parse (drop 1 s) ≡ got a)
 behind-tag t i c [] a e = never (cc)
 behind-tag t i c (x ∷ s) a e =
     told (eqb x t)

@@ -13,7 +13,7 @@ use Rattle.digits.specs.Digits.{readField, readDecimal}
 use Rattle.digits.specs.declared.Field.{Field}
 use Rattle.digits.specs.declared.Field.the-variants.{Value, Wrong}
 use Rattle.digits.proofs.Laws.{digits-read}
-use Rattle.codec.specs.Codec.{Codec, Got, got, wrong, passed, both, fieldSays, number, text, begins, tagged, readTagged, textBehind, readWhole, parsed}
+use Rattle.codec.specs.Codec.{Codec, Got, got, wrong, passed, both, fieldSays, number, text, startsWith, tagged, readTagged, textBehind, readWhole, parsed}
 
 -- ---- a number, by what its reader answered
 
@@ -40,7 +40,7 @@ module _ (t : ℕ) (read : List ℕ → Field) where
 
   pub tagged-says : (i : ℕ) (c : Codec ℕ) (s : List ℕ) → fieldSays i (read (drop 1 s)) ≡ c .parse (drop 1 s) → fieldSays i (readTagged t read s) ≡ tagged t i c .parse s
   unfolding readTagged fieldSays
-  tagged-says i c s e = told (begins t s) (λ y. rw y e) (λ n. rw n)
+  tagged-says i c s e = told (startsWith t s) (λ y. rw y e) (λ n. rw n)
 
 pub tagged-number : (t i b off w top : ℕ) (s : List ℕ) → fieldSays i (readTagged t (readField b off top) s) ≡ tagged t i (number i b off w top) .parse s
 tagged-number t i b off w top s = tagged-says t (readField b off top) i (number i b off w top) s refl
@@ -49,7 +49,7 @@ tagged-number t i b off w top s = tagged-says t (readField b off top) i (number 
 pub tagged-low : (t top n : ℕ) (s : List ℕ) → readTagged t (readDecimal top) s ≡ Value n → n ≤ top
 unfolding readTagged
 tagged-low t top n s e =
-    told (begins t s)
+    told (startsWith t s)
     (λ y. digits-read 10 48 (omega arith) (drop 1 s) n top (sym (cond-yes _ Wrong y) ∙ e) .0)
     (λ no. let z : Wrong ≡ Value n = sym (cond-no _ Wrong no) ∙ e in never (cc))
 

@@ -115,9 +115,9 @@ letter i ok = record {
 }
 
 -- s begins with t
-abbrev pub begins : ℕ → List ℕ → Bool
-begins t [] = false
-begins t (x ∷ s) = eqb x t
+abbrev pub startsWith : ℕ → List ℕ → Bool
+startsWith t [] = false
+startsWith t (x ∷ s) = eqb x t
 
 -- a tag before it, which counts to field i
 abbrev pub tagged : {A : Type 0} → ℕ → ℕ → Codec A → Codec A
@@ -126,7 +126,7 @@ tagged t i c = record {
   lowest = c .lowest;
   print = λ a. t ∷ c .print a;
   also = λ a. map (λ s. t ∷ s) (c .also a);
-  parse = λ s. cond (begins t s) (c .parse (drop 1 s)) (wrong i);
+  parse = λ s. cond (startsWith t s) (c .parse (drop 1 s)) (wrong i);
 }
 
 -- one after the other: spelt otherwise where either is, or both
@@ -164,12 +164,12 @@ through i ok enc more dec c = record {
 
 -- a tag, and what is read behind it
 unfoldable pub readTagged : ℕ → (List ℕ → Field) → List ℕ → Field
-readTagged t read s = cond (begins t s) (read (drop 1 s)) Wrong
+readTagged t read s = cond (startsWith t s) (read (drop 1 s)) Wrong
 
 -- a text behind tags
 unfoldable pub textBehind : List ℕ → List ℕ → Bool
 textBehind [] s = printable s
-textBehind (t ∷ ts) s = begins t s && textBehind ts (drop 1 s)
+textBehind (t ∷ ts) s = startsWith t s && textBehind ts (drop 1 s)
 
 -- bytes of exactly w; of another number they are no value
 unfoldable pub readWhole : ℕ → (List ℕ → Field) → List ℕ → Field

@@ -26,14 +26,14 @@ abbrev pub further : ℕ → List Place → List Place
 further n [] = []
 further n (p ∷ ps) = record { from = n + p .from; width = p .width; share = p .share } ∷ further n ps
 
-abbrev pub inPlace : Place → List ℕ → List ℕ
-inPlace p s = p .share (take (p .width) (drop (p .from) s))
+abbrev pub shareIn : Place → List ℕ → List ℕ
+shareIn p s = p .share (take (p .width) (drop (p .from) s))
 
 -- field i of the contents s, counted from 1; nothing where there is no field i
 unfoldable pub fieldOf : List Place → ℕ → List ℕ → List ℕ
 fieldOf [] i s = []
 fieldOf (p ∷ ps) zero s = []
-fieldOf (p ∷ ps) (suc zero) s = inPlace p s
+fieldOf (p ∷ ps) (suc zero) s = shareIn p s
 fieldOf (p ∷ ps) (suc (suc i)) s = fieldOf ps (suc i) s
 
 -- bytes that spell sendable contents

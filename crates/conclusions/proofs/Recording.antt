@@ -17,7 +17,7 @@ use Rattle.demand2.proofs.Proved.{demand2}
 use Rattle.cutter.specs.Cutter.{invalid, ended, cutOf, answerBy, leftBySaid, thenRead}
 use Rattle.cutter.proofs.Promises.{promised as cuts}
 use Rattle.cut_reader.proofs.Promises.{promised as cut}
-use Rattle.recorder.specs.Recorder.{readingOf, toldAs, takenBy, takeOf, sendOf}
+use Rattle.recorder.specs.Recorder.{readingOf, toldAs, takeBy, takeOf, sendOf}
 use Rattle.recorder.specs.declared.Recorder.{Recorder}
 use Rattle.recorder.proofs.Promises.{promised as recorded}
 use Rattle.layout.proofs.Promises.{promised as laid}
@@ -44,16 +44,16 @@ module _ (r : Recorder) (p out : List ℕ) where
       (λ n. rw n (makes-read (demand2 .fixed) (demand2 .fixed-refuses) (laid .of-fixed) (cut .fixed) c p false out))
 
   not-ended : 161 < r .cutter .len → takeOf r p .ended ≡ false
-  unfolding takeOf takenBy
+  unfolding takeOf takeBy
   not-ended v = rw (cuts .each-call .refused (r .cutter) p .1 v)
 
   module _ (m : List ℕ) (q : cutOf (r .cutter) p .said ≡ ended (accepted m)) where
     opening-fixed : r .opened ≡ false → takeOf r p .made .opening ≡ true
-    unfolding takeOf takenBy readingOf toldAs
+    unfolding takeOf takeBy readingOf toldAs
     opening-fixed o = rw (q, o)
 
     opening-record : r .opened ≡ true → takeOf r p .made .opening ≡ false
-    unfolding takeOf takenBy readingOf toldAs
+    unfolding takeOf takeBy readingOf toldAs
     opening-record o = rw (q, o)
 
   module _ (v : TakeValue) (after : List ℕ) (call : HeronRecorderTakeValue r p out v after) where

@@ -7,7 +7,7 @@ use Rattle.refusal.specs.Refusal.{numberOf, valueOf}
 use Rattle.refusal.specs.declared.Refusal.{Refusal}
 use Rattle.refusal.proofs.Promises.{numbers}
 use Rattle.hourheron.specs.Host.{answerOf, conversionOf}
-use Rattle.conclusions.specs.Promises.{Tells}
+use Rattle.conclusions.specs.Promises.{TellsApart}
 
 -- handed over are 0 and what was done, or a refusal's number and value
 pub record Hands {A R : Type 0} (handed : Answer A → R) (number beside : R → ℕ) (value : R → A) : Type 0 where
@@ -64,5 +64,5 @@ module _ {A R : Type 0} {handed : Answer A → R} {number beside : R → ℕ} {v
   tells-apart a (accepted y) e = done-with (handed a) a refl y .0 (ap number e ∙ h .zero y, ap value e ∙ h .given y)
   tells-apart a (refused x) e = refused-with (handed a) a refl x .0 (ap number e ∙ h .numbered x, ap beside e ∙ h .valued x)
 
-  pub tells : Tells handed number
+  pub tells : TellsApart handed number
   tells = record { done = tells-done; apart = tells-apart }

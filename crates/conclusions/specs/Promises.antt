@@ -50,13 +50,13 @@ use Rattle.hourheron.specs.declared.TakeValue.{TakeValue}
 -- ---- the answers
 
 -- how an answer is handed over tells it: the number is 0 exactly where it is done, and no two answers are handed over alike
-pub record Tells {A R : Type 0} (handed : Answer A → R) (number : R → ℕ) : Type 0 where
+pub record TellsApart {A R : Type 0} (handed : Answer A → R) (number : R → ℕ) : Type 0 where
   pub done : (a : Answer A) → (number (handed a) ≡ 0) ↔ ((x : A) × (a ≡ accepted x))
   pub apart : (a b : Answer A) → handed a ≡ handed b → a ≡ b
 
 -- done, with n
-abbrev pub IsDone : ℕ → host.Answer → Type 0
-IsDone n r = (r .number ≡ 0) × (r .value ≡ n)
+abbrev pub DoneWith : ℕ → host.Answer → Type 0
+DoneWith n r = (r .number ≡ 0) × (r .value ≡ n)
 
 -- the number of document 01's table, with what is also returned
 abbrev pub IsRefused : Refusal → host.Answer → Type 0
@@ -92,7 +92,7 @@ Reader Read form rule plain places bytes width unpack =
 pub record Written {A : Type 0} (form : Codec A) (rule : A → ℕ) (low : ℕ → Refusal) (plain : ℕ) (checksum : Bool) (a : A) (out : List ℕ)
     (r : host.Answer) (after : List ℕ) : Type 0 where
   -- 0 with the message's length, exactly where the contents are sendable and the message has room
-  pub done : (n : ℕ) → IsDone n r ↔ ((rule a ≡ 0) × (lengthBy checksum plain ≤ length out) × (n ≡ lengthBy checksum plain))
+  pub done : (n : ℕ) → DoneWith n r ↔ ((rule a ≡ 0) × (lengthBy checksum plain ≤ length out) × (n ≡ lengthBy checksum plain))
   -- then the message stands at the start, and the bytes past it are unchanged
   pub message : r .number ≡ 0 → after ≡ messageOf form checksum a ++ drop (r .value) out
   -- "Writers check 1 or 8, then 2": each exactly in its case
@@ -123,7 +123,7 @@ itemsTo Write a = Write (a .serial) (a .owner) (a .kind) (a .focal) (a .maximum)
 -- what one call that makes another line of a message says: line is the one of n bytes that it makes, or why it makes none
 pub record Moved (n : ℕ) (line : Answer (List ℕ)) (out : List ℕ) (r : host.Answer) (after : List ℕ) : Type 0 where
   -- 0 with n, exactly where there is a line and room for it
-  pub done : (k : ℕ) → IsDone k r ↔ ((l : List ℕ) × (line ≡ accepted l) × (n ≤ length out) × (k ≡ n))
+  pub done : (k : ℕ) → DoneWith k r ↔ ((l : List ℕ) × (line ≡ accepted l) × (n ≤ length out) × (k ≡ n))
   -- then it stands at the start, and the bytes past it are unchanged
   pub lays : (l : List ℕ) → line ≡ accepted l → r .number ≡ 0 → after ≡ l ++ drop n out
   -- refused as the line is, then 2
@@ -144,15 +144,15 @@ pub record Converted (field : ℕ) (z : ℤ) (unit wanted : ℕ) (r : Conversion
 
 -- what one question about the owner's part says: done exactly for a message of the N writer, with what is asked of its contents; else refused as it is
 pub record Asked (part : Answer Fixed → ℕ) (m : List ℕ) (checksum : Bool) (r : host.Answer) : Type 0 where
-  pub done : (n : ℕ) → IsDone n r ↔
+  pub done : (n : ℕ) → DoneWith n r ↔
       ((f : Fixed) × (fixedLowest f ≡ 0) × (m ≡ messageOf fixedForm checksum f) × (n ≡ part (accepted f)))
   pub refuses : (x : Refusal) → IsRefused x r ↔ ReadWhen fixedLowest (spellings fixedForm) fixedPlaces 67 checksum m x
 
 -- ---- all entries
 
 pub record Promised : Type 0 where
-  pub answer : Tells answerOf (λ r. r .number)
-  pub conversion : Tells conversionOf (λ r. r .number)
+  pub answer : TellsApart answerOf (λ r. r .number)
+  pub conversion : TellsApart conversionOf (λ r. r .number)
   pub read-text : Reader HeronReadText textForm recordLowest 76 textPlaces recordBytes recordWidth unpackRecord
   pub read-packed : Reader HeronReadPacked packedForm recordLowest 41 packedPlaces recordBytes recordWidth unpackRecord
   pub read-fixed : Reader HeronReadFixed fixedForm fixedLowest 67 fixedPlaces fixedBytes fixedWidth unpackFixed
@@ -170,7 +170,7 @@ pub record Promised : Type 0 where
   pub routes-agree : (m : List ℕ) (checksum : Bool) (out : List ℕ) (r r′ : host.Answer) (after after′ : List ℕ) →
       HeronPackedToText m checksum out r after → HeronPackedToTextByRecord m checksum out r′ after′ → (r ≡ r′) × (after ≡ after′)
   pub convert : (field : ℕ) (z : ℤ) (unit wanted : ℕ) (r : Conversion) → HeronConvert field z unit wanted r → Converted field z unit wanted r
-  pub checksum : (s : List ℕ) (r : host.Answer) → HeronChecksum s r → IsDone (sumOf s .high * 256 + sumOf s .low) r
+  pub checksum : (s : List ℕ) (r : host.Answer) → HeronChecksum s r → DoneWith (sumOf s .high * 256 + sumOf s .low) r
   pub owner-start : (m : List ℕ) (checksum : Bool) (r : host.Answer) → HeronOwnerStart m checksum r → Asked ownerAt m checksum r
   pub owner-len : (m : List ℕ) (checksum : Bool) (r : host.Answer) → HeronOwnerLen m checksum r → Asked ownerLength m checksum r
   -- (what these two promise is in crate `collector`)

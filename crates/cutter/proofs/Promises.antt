@@ -15,7 +15,7 @@ use Rattle.frame.specs.Message.{roomFor, thenLeft}
 use Rattle.cutter.specs.Cutter.{cutterLength, zeros, fresh, validCutter, heldFrom, heldMessage, invalid, nothing, ended, Cutting, cutOf, endIn}
 use Rattle.cutter.specs.Cutter.{answerBy, leftBySaid, hasEnded, thenRead, wholeIn, cutAnswer}
 use Rattle.cutter.specs.Stream.{messages, judged}
-use Rattle.cutter.specs.Promises.{Answers, Parts, Promised}
+use Rattle.cutter.specs.Promises.{Answers, CallParts, Promised}
 use Rattle.cutter.specs.declared.Cutter.{Cutter}
 use Rattle.cutter.proofs.Cuts.{cut-some, cut-held, held-small, held-long}
 use Rattle.cutter.proofs.Calls.{call, call-refused}
@@ -78,7 +78,7 @@ fresh-whole m =
     (λ e. let h = leb-true (length m) cutterLength e in held-small fresh m refl (omega arith) ∙ sym (cond-yes _ _ e))
     (λ e. let h = leb-false (length m) cutterLength e in held-long fresh m (omega arith) ∙ sym (cond-no _ _ e))
 
-parts : Parts
+parts : CallParts
 unfolding zeros
 parts = record {
   zero = refl;

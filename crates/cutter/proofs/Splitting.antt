@@ -5,9 +5,10 @@ use mathlib.Core.List.{List, [], _∷_, _++_, append-assoc, append-nil}
 use mathlib.Core.Path.{_≡_, refl, sym, ap, ap₂, _∙_, subst}
 use borrow.Author.Tests.{eq-eqb, eqb-true}
 use lib.Dec.{eqb}
+use Rattle.laws.specs.Flat.{flat}
 use Rattle.laws.proofs.Tests.{cond-yes, cond-no, told, and-left, and-right}
 use Rattle.cutter.specs.Stream.{lastOf, pairs, messagesFrom, tailFrom, messages, tail}
-use Rattle.cutter.specs.Promises.{freeFrom, free, IsMessage, AllMessages, no-more, first, flat, Splits}
+use Rattle.cutter.specs.Promises.{freeFrom, free, IsMessage, AllMessages, no-more, first, Splits}
 use Rattle.cutter.proofs.Holds.{last-snoc}
 
 -- one byte more without a pair
@@ -33,7 +34,7 @@ module _ (x : List ℕ) (b : ℕ) (s : List ℕ) where
 
   -- b ends the first message
   from-end : free x ≡ true → pairs x b ≡ true → From [] s → From x (b ∷ s)
-  unfolding messagesFrom tailFrom flat pairs here
+  unfolding messagesFrom tailFrom pairs here
   from-end f e r =
       let m : messagesFrom x (b ∷ s) ≡ here ∷ messagesFrom [] s = cond-yes _ _ e in
       let t : tailFrom x (b ∷ s) ≡ tailFrom [] s = cond-yes _ _ e in
@@ -62,7 +63,7 @@ module _ (x : List ℕ) (b : ℕ) (s : List ℕ) where
       }
 
 from : (s x : List ℕ) → free x ≡ true → From x s
-unfolding messagesFrom tailFrom flat pairs here freeFrom
+unfolding messagesFrom tailFrom pairs here freeFrom
 from [] x f = record { whole = sym (append-nil x); each = no-more; rest = f }
 from (b ∷ s) x f =
     told (pairs x b)
@@ -117,7 +118,7 @@ module _ (m s : List ℕ) (i : IsMessage m) where
   first-tail = ap tail after ∙ joins .ts ∙ cond-yes _ _ ended
 
 pub only-by : (ms : List (List ℕ)) (s t : List ℕ) → flat ms ++ t ≡ s → AllMessages ms → free t ≡ true → (ms ≡ messages s) × (t ≡ tail s)
-unfolding flat messagesFrom tailFrom lastOf
+unfolding messagesFrom tailFrom lastOf
 only-by [] s t e a f =
     let r = on t [] [] f in
     let q : s ≡ t ++ [] = sym e ∙ sym (append-nil t) in

@@ -6,6 +6,7 @@ use mathlib.Core.Logic.{_↔_}
 use mathlib.Core.Path.{_≡_}
 use lib.Dec.{eqb}
 use lib.ListN.{length, replicate, take, drop, getD}
+use Rattle.laws.specs.Flat.{flat}
 use Rattle.refusal.specs.Answer.{Answer, accepted, refused}
 use Rattle.refusal.specs.declared.Refusal.{Refusal}
 use Rattle.refusal.specs.declared.Refusal.the-variants.{Room, TooLong, State}
@@ -36,10 +37,6 @@ pub record IsMessage (m : List ℕ) : Type 0 where
 pub data AllMessages : List (List ℕ) → Type 0 where
   no-more : AllMessages []
   first : {m : List ℕ} {ms : List (List ℕ)} → IsMessage m → AllMessages ms → AllMessages (m ∷ ms)
-
-unfoldable pub flat : List (List ℕ) → List ℕ
-flat [] = []
-flat (m ∷ ms) = m ++ flat ms
 
 -- messages and a tail without a pair that make up an input
 pub record Splits (s : List ℕ) (ms : List (List ℕ)) (t : List ℕ) : Type 0 where
@@ -135,7 +132,7 @@ pub record Answers (c : Cutter) (p out : List ℕ) : Type 0 where
 
 -- ---- the parts of a call
 
-pub record Parts : Type 0 where
+pub record CallParts : Type 0 where
   -- all zero when fresh
   pub zero : fresh ≡ record { bytes = replicate 160 0; len = 0 }
   -- where `end_in` finds an end, a call uses so many bytes, and says the message that what is held and they make
@@ -164,4 +161,4 @@ pub record Promised : Type 1 where
   pub each-call : EachCall
   pub lent : Lent
   pub answers : (c : Cutter) (p out : List ℕ) → Answers c p out
-  pub parts : Parts
+  pub parts : CallParts

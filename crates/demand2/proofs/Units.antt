@@ -14,7 +14,7 @@ use Rattle.refusal.specs.declared.Verdict.the-variants.{Refused}
 use Rattle.units.specs.Units.{isUnit, topIn, isDistance, inRange, numberIn, conversion}
 use Rattle.units.specs.Measurement.{measurementLowest, measurementVerdict}
 use Rattle.units.proofs.Table.{measurement-by-table}
-use Rattle.units.specs.Refuses.{Letter, Convertible, ConvertWhen, CheckWhen, UnitsRefuse}
+use Rattle.units.specs.Refuses.{UnitLetter, Convertible, ConvertWhen, CheckWhen, UnitsRefuse}
 use Rattle.units.specs.declared.Measurement.{Measurement}
 
 -- ---- what the tests say
@@ -34,13 +34,13 @@ or-right : (a : Bool) {b : Bool} → b ≡ true → (a || b) ≡ true
 or-right true e = refl
 or-right false e = e
 
-letter : (u : ℕ) → (isUnit u ≡ true) ↔ Letter u
+letter : (u : ℕ) → (isUnit u ≡ true) ↔ UnitLetter u
 letter u = (either (eqb u 73) (eqb u 77) (eqb-true u 73) (eqb-true u 77), back) where
-  back : Letter u → isUnit u ≡ true
+  back : UnitLetter u → isUnit u ≡ true
   back (inl e) = or-left (eqb u 77) (eq-eqb u 73 e)
   back (inr e) = or-right (eqb u 73) (eq-eqb u 77 e)
 
-letters : (u v : ℕ) → ((isUnit u && isUnit v) ≡ true) ↔ (Letter u × Letter v)
+letters : (u v : ℕ) → ((isUnit u && isUnit v) ≡ true) ↔ (UnitLetter u × UnitLetter v)
 letters u v = (
   λ e. (letter u .0 (and-left (isUnit u) (isUnit v) e), letter v .0 (and-right (isUnit u) (isUnit v) e)),
   λ h. and-both (letter u .1 (h .0)) (letter v .1 (h .1)),
@@ -98,7 +98,7 @@ module _ (i : ℕ) (z : ℤ) (unit wanted : ℕ) (r : Refusal) where
   converted : conversion i z unit wanted ≡ refused r → ConvertWhen i z unit wanted r
   unfolding conversion
   converted e = by-letters (unless-when (isUnit unit && isUnit wanted) (Field 0) _ r e) where
-    by-range : Letter unit × Letter wanted → ((inRange i z unit ≡ false) × (r ≡ Field i)) ⊎ ((inRange i z unit ≡ true) × (accepted (numberIn unit wanted z) ≡ refused r)) →
+    by-range : UnitLetter unit × UnitLetter wanted → ((inRange i z unit ≡ false) × (r ≡ Field i)) ⊎ ((inRange i z unit ≡ true) × (accepted (numberIn unit wanted z) ≡ refused r)) →
         ConvertWhen i z unit wanted r
     by-range h (inl n) = inr (h, (fails range (n .0), n .1))
     by-range h (inr y) = let q : accepted (numberIn unit wanted z) ≡ refused r = y .1 in never (cc)

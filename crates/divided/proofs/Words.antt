@@ -6,22 +6,22 @@ use mathlib.Core.Path.{_≡_, refl, sym, ap, ap₂, _∙_}
 use native.Mathlib.Nat.{mod-lt}
 use native.Mathlib.Omega.{arith}
 use lib.Bits.{bitAnd}
+use Rattle.laws.specs.Lowest.{lowestFirst, fromLowest}
 use Rattle.digits.specs.Digits.{digits, decimal}
-use Rattle.divided.specs.Bytes.{bytes, word}
 use Rattle.divided.proofs.Lanes.{tens, last-tens, hundreds}
 
-byte : (k d v : ℕ) → d < 256 → bytes (suc k) (d + 256 * v) ≡ d ∷ bytes k v
-unfolding bytes
+byte : (k d v : ℕ) → d < 256 → lowestFirst (suc k) (d + 256 * v) ≡ d ∷ lowestFirst k v
+unfolding lowestFirst
 byte k d v h =
     let above : (d + 256 * v) / 256 ≡ v = omega arith in
-    ap₂ _∷_ (omega (arith, above)) (ap (bytes k) above)
+    ap₂ _∷_ (omega (arith, above)) (ap (lowestFirst k) above)
 
-pub bytes-word : (k n : ℕ) → bytes k (word (decimal k n)) ≡ decimal k n
-unfolding bytes word digits
+pub bytes-word : (k n : ℕ) → lowestFirst k (fromLowest (decimal k n)) ≡ decimal k n
+unfolding lowestFirst fromLowest digits
 bytes-word zero n = refl
 bytes-word (suc k) n =
     let low : n / 10 ^ k % 10 < 10 = mod-lt (n / 10 ^ k) (omega arith) in
-    byte k (48 + n / 10 ^ k % 10) (word (decimal k n)) (omega (arith, low))
+    byte k (48 + n / 10 ^ k % 10) (fromLowest (decimal k n)) (omega (arith, low))
     ∙ ap (λ (ds : List ℕ). (48 + n / 10 ^ k % 10) ∷ ds) (bytes-word k n)
 
 -- ---- four digits: two lanes
@@ -39,8 +39,8 @@ module _ (n : ℕ) (small : n < 10000) where
       ∙ tens (n % 100) (n / 100) 15 (omega arith)
       ∙ ap (λ (x : ℕ). x * 65536 + n / 100 / 10) (last-tens (n % 100) (omega arith))
 
-  pub four-word : 256 * lanes-of-four - 2559 * bitAnd (lanes-of-four * 103 / 1024) 983055 + 808464432 ≡ word (decimal 4 n)
-  unfolding word digits
+  pub four-word : 256 * lanes-of-four - 2559 * bitAnd (lanes-of-four * 103 / 1024) 983055 + 808464432 ≡ fromLowest (decimal 4 n)
+  unfolding fromLowest digits
   four-word =
       let a : n / 1000 % 10 ≡ n / 100 / 10 = omega arith in
       let b : n / 10 % 10 ≡ n % 100 / 10 = omega arith in
@@ -51,8 +51,8 @@ module _ (n : ℕ) (small : n < 10000) where
 
 characters : (p q r s l t : ℕ) → l ≡ 65536 * (65536 * (65536 * s + r) + q) + p → t ≡ ((s / 10 * 65536 + r / 10) * 65536 + q / 10) * 65536 + p / 10 →
     256 * l - 2559 * t + 3472328296227680304 ≡
-    word ((48 + p / 10) ∷ (48 + p % 10) ∷ (48 + q / 10) ∷ (48 + q % 10) ∷ (48 + r / 10) ∷ (48 + r % 10) ∷ (48 + s / 10) ∷ (48 + s % 10) ∷ [])
-unfolding word
+    fromLowest ((48 + p / 10) ∷ (48 + p % 10) ∷ (48 + q / 10) ∷ (48 + q % 10) ∷ (48 + r / 10) ∷ (48 + r % 10) ∷ (48 + s / 10) ∷ (48 + s % 10) ∷ [])
+unfolding fromLowest
 characters p q r s l t h k = omega (arith, h, k)
 
 below : (p q r s l : ℕ) → p < 100 → q < 100 → r < 100 → s < 100 → l ≡ 65536 * (65536 * (65536 * s + r) + q) + p → l < 28147497671065600
@@ -117,6 +117,6 @@ module _ (n : ℕ) (small : n < 100000000) where
       ap₂ _∷_ (omega arith) (ap₂ _∷_ (omega arith) (ap₂ _∷_ (omega arith) (ap₂ _∷_ (omega arith)
       (ap₂ _∷_ (omega arith) (ap₂ _∷_ (omega arith) (ap₂ _∷_ (omega arith) (ap₂ _∷_ (omega arith) refl)))))))
 
-  pub eight-word : 256 * lanes-of-eight - 2559 * tens-of-eight + 3472328296227680304 ≡ word (decimal 8 n)
-  unfolding word
-  eight-word = characters (first / 100) (first % 100) (second / 100) (second % 100) lanes-of-eight tens-of-eight four-lanes four-tens ∙ ap word (sym eight-digits)
+  pub eight-word : 256 * lanes-of-eight - 2559 * tens-of-eight + 3472328296227680304 ≡ fromLowest (decimal 8 n)
+  unfolding fromLowest
+  eight-word = characters (first / 100) (first % 100) (second / 100) (second % 100) lanes-of-eight tens-of-eight four-lanes four-tens ∙ ap fromLowest (sym eight-digits)

@@ -4,10 +4,10 @@
 ghost use mathlib.Core.Path.{_≡_};
 ghost use Prim.Native.Nat.{_+_, _≤_, _<_};
 ghost use lib.ListN.{length};
+ghost use Rattle.laws.specs.Lowest.{lowestFirst};
 ghost use Rattle.laws.specs.Over.{over};
 ghost use Rattle.digits.specs.Digits.{decimal};
 ghost use Rattle.divided.specs.Contracts.{PutDecimal};
-ghost use Rattle.divided.specs.Bytes.{bytes};
 
 // ---- words of digits
 //
@@ -18,7 +18,7 @@ ghost use Rattle.divided.specs.Bytes.{bytes};
 // The four digits of n.
 fn four(n: u32) -> u32
     requires { ⌜ n < 10000 ⌝ }
-    ensures { λ r. ⌜ bytes 4 r ≡ decimal 4 n ⌝ }
+    ensures { λ r. ⌜ lowestFirst 4 r ≡ decimal 4 n ⌝ }
 {
     let hundreds = n / 100;
     let lanes = 65536 * n - 6553599 * hundreds;
@@ -29,7 +29,7 @@ fn four(n: u32) -> u32
 // The eight digits of n. First each half has a lane of 32 bits; times 10,486 and divided by 2^20 it is its hundreds.
 fn eight(n: u64) -> u64
     requires { ⌜ n < 100000000 ⌝ }
-    ensures { λ r. ⌜ bytes 8 r ≡ decimal 8 n ⌝ }
+    ensures { λ r. ⌜ lowestFirst 8 r ≡ decimal 8 n ⌝ }
 {
     let halves = 4294967296 * n - 42949672959999 * (n / 10000);
     let hundreds = halves * 10486 / 1048576 & 0x0000007F0000007F;
@@ -41,7 +41,7 @@ fn eight(n: u64) -> u64
 // Stores the bytes of a word of 32 bits.
 fn put_four(out: &mut [u8], at: usize, w: u32)
     requires { ⌜ at + 4 ≤ length (now out) ⌝ }
-    ensures { λ _. ⌜ now (out .exit) ≡ over (now (out .entry)) at (bytes 4 w) ⌝ }
+    ensures { λ _. ⌜ now (out .exit) ≡ over (now (out .entry)) at (lowestFirst 4 w) ⌝ }
 {
     out[at] = (w % 256) as u8;
     out[at + 1] = (w / 256 % 256) as u8;
@@ -52,7 +52,7 @@ fn put_four(out: &mut [u8], at: usize, w: u32)
 // Stores those of a word of 64.
 fn put_eight(out: &mut [u8], at: usize, w: u64)
     requires { ⌜ at + 8 ≤ length (now out) ⌝ }
-    ensures { λ _. ⌜ now (out .exit) ≡ over (now (out .entry)) at (bytes 8 w) ⌝ }
+    ensures { λ _. ⌜ now (out .exit) ≡ over (now (out .entry)) at (lowestFirst 8 w) ⌝ }
 {
     put_four(out, at, (w % 4294967296) as u32);
     put_four(out, at + 4, (w / 4294967296) as u32);

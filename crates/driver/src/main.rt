@@ -181,7 +181,7 @@ fn noted(desk: Desk, found: Seen) -> Desk {
 }
 
 // A turn: slots, then a look; where nothing is left to send and nothing has come, a look that waits.
-fn turned(desk: Desk, waiting: i32) -> Desk {
+fn take_turn(desk: Desk, waiting: i32) -> Desk {
     let lens = desk.lens;
     let line = lens.line;
     let turn = slots(lens.port, desk.waits);
@@ -212,7 +212,7 @@ fn run(desk: Desk, waiting: i32) {
         if !now.open {
             return;
         }
-        now = turned(now, waiting);
+        now = take_turn(now, waiting);
         turns -= 1;
     }
 }

@@ -21,10 +21,10 @@ use Rattle.telling.specs.Telling.{validRun, Telling, tellOf, toldOf, toldLeaves
 use Rattle.telling.specs.declared.Run.{Run}
 use Rattle.telling.specs.declared.Told.{Told}
 use Rattle.telling.proofs.Promises.{each-call}
-use Rattle.follow.specs.Follow.{blankText, validText, heldIn, validFollower, followedBy, refusedState, holds, lineIn, takeOf, takeLeaves, closeOf, closeLeaves}
+use Rattle.follow.specs.Follow.{blankText, validText, heldIn, validFollower, followedBy, refusedState, holdOf, lineIn, takeOf, takeLeaves, closeOf, closeLeaves}
 use Rattle.follow.specs.declared.Follower.{Follower}
 use Rattle.follow.specs.declared.Followed.{Followed}
-use Rattle.follow.proofs.Laws.{take-16, take-holds, take-line, close-16, close-none, close-line}
+use Rattle.follow.proofs.Laws.{take-16, take-hold, take-line, close-16, close-none, close-line}
 
 -- ---- a line that is told
 
@@ -60,7 +60,7 @@ module _ (f : Follower) (piece out : List ℕ) where
 
   pub data Took : Type 0 where
     invalid : validFollower f ≡ false → takeOf f piece out ≡ refusedState f → takeLeaves f piece out ≡ out → Took
-    held : validFollower f ≡ true → before LF piece ≡ length piece → takeOf f piece out ≡ holds f piece → takeLeaves f piece out ≡ out → Took
+    held : validFollower f ≡ true → before LF piece ≡ length piece → takeOf f piece out ≡ holdOf f piece → takeLeaves f piece out ≡ out → Took
     whole : validFollower f ≡ true → before LF piece < length piece → length (ending .text) ≤ length out →
         takeOf f piece out ≡ toldTo ending (before LF piece + 1) → takeLeaves f piece out ≡ over out 0 (ending .text) → Took
     short : validFollower f ≡ true → before LF piece < length piece → length out < length (ending .text) →
@@ -83,7 +83,7 @@ module _ (f : Follower) (piece out : List ℕ) where
       let run = valid-run f v in
       told (eqb (before LF piece) (length piece))
       (λ e.
-      let g = take-holds f piece out v (eqb-true _ _ e) in
+      let g = take-hold f piece out v (eqb-true _ _ e) in
       held v (eqb-true _ _ e) (sym (g .answers)) (sym (g .leaves)))
       (λ e.
       let n : before LF piece ≡ length piece → ⊥ = eqb-false _ _ e in

@@ -17,7 +17,7 @@ use Rattle.capture.proofs.Promises.{forms}
 use Rattle.printed.specs.Printed.{LF}
 use Rattle.telling.specs.Telling.{validRun}
 use Rattle.telling.proofs.Promises.{promised}
-use Rattle.follow.specs.Follow.{textLength, validText, heldIn, joins, joinedText, validFollower, lineIn, takeOf, takeLeaves, closeOf, closeLeaves}
+use Rattle.follow.specs.Follow.{heldLength, validText, heldIn, joins, joinedText, validFollower, lineIn, takeOf, takeLeaves, closeOf, closeLeaves}
 use Rattle.follow.specs.Promises.{EachCall}
 use Rattle.follow.specs.declared.Text.{Text}
 use Rattle.follow.specs.declared.Follower.{Follower}
@@ -42,13 +42,13 @@ is-foreign f (inr t) = sym (and-fails-by (validRun (f .run)) (lt-leb _ _ t))
 -- ---- a line that comes in
 
 -- its count stays within the buffer, whatever the buffer is
-joined-few : (t : Text) (s : List ℕ) → t .len ≤ textLength → joinedText t s .len ≤ textLength
+joined-few : (t : Text) (s : List ℕ) → t .len ≤ heldLength → joinedText t s .len ≤ heldLength
 unfolding joinedText joins
 joined-few t [] h = h
 joined-few t (b ∷ s) h =
     joined-few (joins t b) s
-    (by (λ (u : Text). u .len ≤ textLength) (ltb (t .len) textLength) _ _
-    (λ e. let low : t .len < textLength = ltb-true _ _ e in omega arith)
+    (by (λ (u : Text). u .len ≤ heldLength) (ltb (t .len) heldLength) _ _
+    (λ e. let low : t .len < heldLength = ltb-true _ _ e in omega arith)
     (λ e. h))
 
 -- ---- a call, by its case

@@ -20,7 +20,7 @@ use Rattle.telling.specs.Contracts.{RunTell}
 use Rattle.printed.specs.Printed.{LF}
 use Rattle.telling.specs.Telling.{validRun, toldOf, toldLeaves}
 use Rattle.telling.specs.declared.Told.{Told}
-use Rattle.follow.specs.Follow.{textLength, validText, heldIn, joins, joinedText, validFollower, followedBy, refusedState, holds, lineIn, takeOf, takeLeaves, closeOf, closeLeaves}
+use Rattle.follow.specs.Follow.{heldLength, validText, heldIn, joins, joinedText, validFollower, followedBy, refusedState, holdOf, lineIn, takeOf, takeLeaves, closeOf, closeLeaves}
 use Rattle.follow.specs.declared.Text.{Text}
 use Rattle.follow.specs.declared.Follower.{Follower}
 use Rattle.follow.specs.declared.Followed.{Followed}
@@ -28,16 +28,16 @@ use Rattle.follow.specs.declared.Followed.{Followed}
 -- ---- a byte
 
 module _ (t : Text) (b : ℕ) where
-  pub joins-kept : t .len < textLength → joins t b ≡ record { bytes = set (t .bytes) (t .len) b; len = t .len + 1 }
+  pub joins-kept : t .len < heldLength → joins t b ≡ record { bytes = set (t .bytes) (t .len) b; len = t .len + 1 }
   unfolding joins
   joins-kept h = cond-yes _ _ (lt-ltb _ _ h)
 
-  pub joins-full : textLength ≤ t .len → joins t b ≡ t
+  pub joins-full : heldLength ≤ t .len → joins t b ≡ t
   unfolding joins
   joins-full h = cond-no _ _ (le-ltb _ _ h)
 
 -- a full line keeps no more
-pub joined-full : (t : Text) (s : List ℕ) → textLength ≤ t .len → joinedText t s ≡ t
+pub joined-full : (t : Text) (s : List ℕ) → heldLength ≤ t .len → joinedText t s ≡ t
 unfolding joinedText
 joined-full t [] h = refl
 joined-full t (b ∷ s) h = ap (λ (u : Text). joinedText u s) (joins-full t b h) ∙ joined-full t s h
@@ -51,14 +51,14 @@ joined-next t s i h = rw (add-one, drop-cons s i 0 h)
 
 -- a line whose buffer is as long as its type says and whose count is within it
 pub record Sound (t : Text) : Type 0 where
-  pub long : length (t .bytes) ≡ textLength
-  pub few : t .len ≤ textLength
+  pub long : length (t .bytes) ≡ heldLength
+  pub few : t .len ≤ heldLength
 
 pub held-long : {t : Text} → Sound t → length (heldIn t) ≡ t .len
 held-long {t} h = length-take-le (t .len) (t .bytes) (omega (arith, h .long, h .few))
 
 -- one byte more
-module _ {t : Text} (h : Sound t) (b : ℕ) (low : t .len < textLength) where
+module _ {t : Text} (h : Sound t) (b : ℕ) (low : t .len < heldLength) where
   abbrev more : Text
   more = record { bytes = set (t .bytes) (t .len) b; len = t .len + 1 }
 
@@ -69,31 +69,31 @@ module _ {t : Text} (h : Sound t) (b : ℕ) (low : t .len < textLength) where
   held-more = ap (λ (n : ℕ). take n (set (t .bytes) (t .len) b)) (add-one (t .len)) ∙ take-suc-set (t .bytes) (t .len) b (omega (arith, h .long))
 
 -- of a line that comes in parts its first bytes are kept
-pub held-joined : (t : Text) (s : List ℕ) → Sound t → heldIn (joinedText t s) ≡ take textLength (heldIn t ++ s)
+pub held-joined : (t : Text) (s : List ℕ) → Sound t → heldIn (joinedText t s) ≡ take heldLength (heldIn t ++ s)
 unfolding joinedText
-held-joined t [] h = sym (take-all textLength (heldIn t ++ []) (rw (append-nil (heldIn t)) (omega (arith, held-long h, h .few))) ∙ append-nil (heldIn t))
+held-joined t [] h = sym (take-all heldLength (heldIn t ++ []) (rw (append-nil (heldIn t)) (omega (arith, held-long h, h .few))) ∙ append-nil (heldIn t))
 held-joined t (b ∷ s) h =
-    told (ltb (t .len) textLength)
+    told (ltb (t .len) heldLength)
     (λ e.
-    let low : t .len < textLength = ltb-true _ _ e in
+    let low : t .len < heldLength = ltb-true _ _ e in
     ap (λ (u : Text). heldIn (joinedText u s)) (joins-kept t b low)
     ∙ held-joined (more h b low) s (more-sound h b low)
-    ∙ ap (λ (x : List ℕ). take textLength (x ++ s)) (held-more h b low)
-    ∙ ap (take textLength) (append-assoc (heldIn t) (b ∷ []) s))
+    ∙ ap (λ (x : List ℕ). take heldLength (x ++ s)) (held-more h b low)
+    ∙ ap (take heldLength) (append-assoc (heldIn t) (b ∷ []) s))
     (λ e.
-    let high : textLength ≤ t .len = ltb-false _ _ e in
+    let high : heldLength ≤ t .len = ltb-false _ _ e in
     let n = held-long h in
     ap (λ (u : Text). heldIn (joinedText u s)) (joins-full t b high)
     ∙ ap heldIn (joined-full t s high)
-    ∙ sym (take-at (heldIn t) (b ∷ s) textLength (omega (arith, h .few))))
+    ∙ sym (take-at (heldIn t) (b ∷ s) heldLength (omega (arith, h .few))))
 
 pub joined-sound : (t : Text) (s : List ℕ) → Sound t → Sound (joinedText t s)
 unfolding joinedText
 joined-sound t [] h = h
 joined-sound t (b ∷ s) h =
-    told (ltb (t .len) textLength)
+    told (ltb (t .len) heldLength)
     (λ e.
-    let low : t .len < textLength = ltb-true _ _ e in
+    let low : t .len < heldLength = ltb-true _ _ e in
     subst (λ (u : Text). Sound (joinedText u s)) (sym (joins-kept t b low)) (joined-sound (more h b low) s (more-sound h b low)))
     (λ e. subst (λ (u : Text). Sound (joinedText u s)) (sym (joins-full t b (ltb-false _ _ e))) (joined-sound t s h))
 
@@ -114,9 +114,9 @@ module _ (f : Follower) (piece out : List ℕ) where
   unfolding takeOf takeLeaves
   take-16 v = record { answers = no _ v refl; leaves = no _ v refl }
 
-  pub take-holds : validFollower f ≡ true → before LF piece ≡ length piece → Takes (holds f piece) out
+  pub take-hold : validFollower f ≡ true → before LF piece ≡ length piece → Takes (holdOf f piece) out
   unfolding takeOf takeLeaves
-  take-holds v e = record { answers = yes _ v (yes _ (eq-eqb _ _ e) refl); leaves = yes _ v (yes _ (eq-eqb _ _ e) refl) }
+  take-hold v e = record { answers = yes _ v (yes _ (eq-eqb _ _ e) refl); leaves = yes _ v (yes _ (eq-eqb _ _ e) refl) }
 
   pub take-line : {x : Event} {t : Told} {after : List ℕ} → validFollower f ≡ true → (before LF piece ≡ length piece → ⊥) →
       x ≡ eventOf (lineIn f (take (before LF piece) piece)) → RunTell (f .run) x out t after → Takes (followedBy f t (before LF piece + 1)) after

@@ -15,7 +15,7 @@ use Rattle.line.specs.Line.{zeros as lineZeros}
 use Rattle.state.specs.State.{zeros as stateZeros, validModes, validMessage, validSource}
 use Rattle.rules.specs.Does.{isOn}
 use Rattle.capture.specs.Words.{before, behind, word, spaces, sole}
-use Rattle.capture.specs.Numbers.{numberOf}
+use Rattle.capture.specs.Numbers.{digitsOf}
 use Rattle.capture.specs.Capture.{slotsBy, eventOf}
 use Rattle.machine.specs.Machine.{sent, start}
 use Rattle.machine.specs.Promised.{Promised}
@@ -156,7 +156,7 @@ empty = refl
 
 four : replayOf (0x53 ∷ 0x20 ∷ 0x34 ∷ []) ≡
     0x33 ∷ 0x63 ∷ 0x20 ∷ 0x30 ∷ 0x61 ∷ 0x20 ∷ 0x30 ∷ 0x64 ∷ 0x20 ∷ 0x2D ∷ 0x2D ∷ 0x0A ∷ 0x73 ∷ 0x6C ∷ 0x6F ∷ 0x74 ∷ 0x73 ∷ 0x20 ∷ 0x34 ∷ 0x0A ∷ []
-unfolding replayWith tellAll lines startWith labelled widthOf digits value readDigits readField before behind word spaces sole numberOf slotsBy within eventOf tellOf tells slotsLeft slotsText afterSlots separator hexDigit startOf startVerdict handed unitOf settingsLowest measurementVerdict measurementLowest figuresLowest frontLowest middleLowest backLowest failing first textOk every kindOk letterOk lensLowest fixedLowest byUnit stopOk slotOf sendFrom chooseOf restOf actOf movedIf validPort validSource validMessage validModes stateZeros lineZeros written isOn
+unfolding replayWith tellAll lines startWith labelled widthOf digits value readDigits readField before behind word spaces sole digitsOf slotsBy within eventOf tellOf tells slotsLeft slotsText afterSlots separator hexDigit startOf startVerdict handed unitOf settingsLowest measurementVerdict measurementLowest figuresLowest frontLowest middleLowest backLowest failing first textOk every kindOk letterOk lensLowest fixedLowest byUnit stopOk slotOf sendFrom chooseOf restOf actOf movedIf validPort validSource validMessage validModes stateZeros lineZeros written isOn
 four = refl
 
 pub whole-text : WholeText

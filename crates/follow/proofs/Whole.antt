@@ -21,7 +21,7 @@ use Rattle.telling.specs.Telling.{startWith, validRun, Telling, tellOf, countOf
 use Rattle.telling.specs.declared.Run.{Run}
 use Rattle.telling.proofs.Promises.{each-call}
 use Rattle.follow.specs.Replay.{lines, tellAll, replayWith}
-use Rattle.follow.specs.Follow.{textLength, blankText, heldIn, joinedText, holds, lineIn, takeOf, takeLeaves, closeOf, closeLeaves}
+use Rattle.follow.specs.Follow.{heldLength, blankText, heldIn, joinedText, holdOf, lineIn, takeOf, takeLeaves, closeOf, closeLeaves}
 use Rattle.follow.specs.Calls.{Fed, no-more, next, Replays}
 use Rattle.follow.specs.Promises.{Unbroken}
 use Rattle.follow.specs.declared.Follower.{Follower}
@@ -36,9 +36,9 @@ use Rattle.follow.proofs.Each.{toldTo, ending, Took, invalid, held, who
 pub record Has (w : List ℕ) (f : Follower) : Type 0 where
   pub unbroken : Unbroken w
   pub sound : Sound (f .text)
-  pub kept : heldIn (f .text) ≡ take textLength w
+  pub kept : heldIn (f .text) ≡ take heldLength w
 
-zeros-long : length (blankText .bytes) ≡ textLength
+zeros-long : length (blankText .bytes) ≡ heldLength
 zeros-long = refl
 
 pub has-none : (r : Run) → Has [] (record { run = r; text = blankText })
@@ -46,27 +46,27 @@ unfolding before
 has-none r = record { unbroken = refl; sound = record { long = zeros-long; few = omega arith }; kept = refl }
 
 -- more bytes, of which the first ones are known
-kept-append : (w a : List ℕ) → take textLength (take textLength w ++ a) ≡ take textLength (w ++ a)
+kept-append : (w a : List ℕ) → take heldLength (take heldLength w ++ a) ≡ take heldLength (w ++ a)
 kept-append w a =
-    told (leb (length w) textLength)
-    (λ e. ap (λ (x : List ℕ). take textLength (x ++ a)) (take-all textLength w (leb-true _ _ e)))
+    told (leb (length w) heldLength)
+    (λ e. ap (λ (x : List ℕ). take heldLength (x ++ a)) (take-all heldLength w (leb-true _ _ e)))
     (λ e.
-    let h : textLength < length w = leb-false _ _ e in
-    take-at (take textLength w) a textLength (length-take-le textLength w (omega arith)) ∙ sym (take-append-le textLength w a (omega arith)))
+    let h : heldLength < length w = leb-false _ _ e in
+    take-at (take heldLength w) a heldLength (length-take-le heldLength w (omega arith)) ∙ sym (take-append-le heldLength w a (omega arith)))
 
 module _ {w : List ℕ} {f : Follower} (h : Has w f) (a : List ℕ) where
   has-more : Unbroken a → Has (w ++ a) (record { run = f .run; text = joinedText (f .text) a })
   has-more u = record {
     unbroken = unbroken-append w a (h .unbroken) u;
     sound = joined-sound (f .text) a (h .sound);
-    kept = held-joined (f .text) a (h .sound) ∙ ap (λ (x : List ℕ). take textLength (x ++ a)) (h .kept) ∙ kept-append w a;
+    kept = held-joined (f .text) a (h .sound) ∙ ap (λ (x : List ℕ). take heldLength (x ++ a)) (h .kept) ∙ kept-append w a;
   }
 
   -- they tell the event of the whole line
   same-event : eventOf (lineIn f a) ≡ eventOf (w ++ a)
   same-event =
       sym (first-136 (lineIn f a))
-      ∙ ap eventOf (ap (λ (x : List ℕ). take textLength (x ++ a)) (h .kept) ∙ kept-append w a)
+      ∙ ap eventOf (ap (λ (x : List ℕ). take heldLength (x ++ a)) (h .kept) ∙ kept-append w a)
       ∙ first-136 (w ++ a)
 
 -- ---- the calls
@@ -89,7 +89,7 @@ first-line r l s u = ap (tellAll r) (ended l s u)
 -- a piece in which no line ends
 module _ {w : List ℕ} (f : Follower) (piece out : List ℕ) (n : ℕ) (s t : List ℕ) (g : Follower) (h : Has w f)
     (c : takeOf f piece out .wrote ≡ Count n) where
-  held-comes : takeOf f piece out ≡ holds f piece → Comes (w ++ piece) (takeOf f piece out .follower) s t g →
+  held-comes : takeOf f piece out ≡ holdOf f piece → Comes (w ++ piece) (takeOf f piece out .follower) s t g →
       Comes w f (take (takeOf f piece out .used) piece ++ s) (take n (takeLeaves f piece out) ++ t) g
   held-comes e i =
       let z : n ≡ 0 = cc in
@@ -156,7 +156,7 @@ comes (next f piece out n s t g c fed) h = comes-by f piece out n s t g h c (λ 
 
 -- ---- the end of the text
 
-nothing-kept : (w : List ℕ) → take textLength w ≡ [] → w ≡ []
+nothing-kept : (w : List ℕ) → take heldLength w ≡ [] → w ≡ []
 nothing-kept [] e = refl
 nothing-kept (b ∷ w) e = never (cc)
 

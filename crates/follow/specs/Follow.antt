@@ -21,14 +21,14 @@ use Rattle.follow.specs.declared.Followed.{Followed}
 -- ---- a line that has not ended
 
 -- one more than a line of an event has at most: a longer one is known by its first bytes
-abbrev pub textLength : ℕ
-textLength = 136
+abbrev pub heldLength : ℕ
+heldLength = 136
 
 abbrev pub blankText : Text
-blankText = record { bytes = replicate textLength 0; len = 0 }
+blankText = record { bytes = replicate heldLength 0; len = 0 }
 
 abbrev pub validText : Text → Bool
-validText t = leb (t .len) textLength
+validText t = leb (t .len) heldLength
 
 -- its bytes, as far as they are kept
 abbrev pub heldIn : Text → List ℕ
@@ -36,7 +36,7 @@ heldIn t = take (t .len) (t .bytes)
 
 -- a byte joins, where it is kept
 unfoldable pub joins : Text → ℕ → Text
-joins t b = cond (ltb (t .len) textLength) (record { bytes = set (t .bytes) (t .len) b; len = t .len + 1 }) t
+joins t b = cond (ltb (t .len) heldLength) (record { bytes = set (t .bytes) (t .len) b; len = t .len + 1 }) t
 
 unfoldable pub joinedText : Text → List ℕ → Text
 joinedText t [] = t
@@ -63,8 +63,8 @@ abbrev pub refusedState : Follower → Followed
 refusedState f = record { wrote = wrote.Refused State; used = 0; follower = f }
 
 -- a piece in which no line ends
-abbrev pub holds : Follower → List ℕ → Followed
-holds f piece = record { wrote = wrote.Count 0; used = length piece; follower = record { run = f .run; text = joinedText (f .text) piece } }
+abbrev pub holdOf : Follower → List ℕ → Followed
+holdOf f piece = record { wrote = wrote.Count 0; used = length piece; follower = record { run = f .run; text = joinedText (f .text) piece } }
 
 -- the line that ends with this part
 abbrev pub lineIn : Follower → List ℕ → List ℕ
@@ -75,7 +75,7 @@ unfoldable pub takeOf : Follower → List ℕ → List ℕ → Followed
 takeOf f piece out =
     let end = before LF piece in
     cond (validFollower f)
-    (cond (eqb end (length piece)) (holds f piece) (followedBy f (toldOf (f .run) (eventOf (lineIn f (take end piece))) out) (end + 1)))
+    (cond (eqb end (length piece)) (holdOf f piece) (followedBy f (toldOf (f .run) (eventOf (lineIn f (take end piece))) out) (end + 1)))
     (refusedState f)
 
 unfoldable pub takeLeaves : Follower → List ℕ → List ℕ → List ℕ

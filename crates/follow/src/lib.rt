@@ -13,11 +13,11 @@ ghost use Rattle.follow.specs.Follow.{blankText, validText, heldIn, join
 ghost use Rattle.follow.specs.Contracts.{FollowerStart, FollowerIsValid, FollowerTake, FollowerClose};
 
 // The bytes that are kept of a line: one more than a line of an event has at most.
-pub const TEXT_LENGTH: usize = 136;
+pub const HELD_LENGTH: usize = 136;
 
 // The first bytes of the line that is coming in.
 pub struct Text {
-    pub bytes: [u8; TEXT_LENGTH],
+    pub bytes: [u8; HELD_LENGTH],
     pub len: usize,
 }
 
@@ -47,7 +47,7 @@ impl Text {
         ensures { λ r. ⌜ r ≡ blankText ⌝ }
     {
         Text {
-            bytes: [0; TEXT_LENGTH],
+            bytes: [0; HELD_LENGTH],
             len: 0,
         }
     }
@@ -56,7 +56,7 @@ impl Text {
     fn is_kept(self) -> bool
         ensures { λ r. ⌜ r ≡ validText self ⌝ }
     {
-        self.len <= TEXT_LENGTH
+        self.len <= HELD_LENGTH
     }
 
     // The line with these bytes more, as many as are kept.
@@ -67,7 +67,7 @@ impl Text {
         let mut i = 0;
         while i < part.len() {
             let at = text.len;
-            if TEXT_LENGTH <= at {
+            if HELD_LENGTH <= at {
                 return text;
             }
             text.bytes[at] = part[i];

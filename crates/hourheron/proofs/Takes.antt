@@ -7,7 +7,7 @@ use Rattle.refusal.specs.Answer.{Answer}
 use Rattle.frame.specs.Message.{afterwards}
 use Rattle.cutter.specs.Cutter.{Said, invalid, nothing, ended, cutOf, answerBy, leftBySaid}
 use Rattle.cutter.specs.declared.Cutter.{Cutter}
-use Rattle.recorder.specs.Recorder.{Reading, asFixed, asRecord, toldAs, takenBy, takeOf}
+use Rattle.recorder.specs.Recorder.{Reading, asFixed, asRecord, toldAs, takeBy, takeOf}
 use Rattle.recorder.specs.declared.Made.{Made}
 use Rattle.recorder.specs.declared.Recorder.{Recorder}
 use Rattle.layout.specs.Layout.{recordBytes, recordWidth, fixedBytes, fixedWidth}
@@ -36,14 +36,14 @@ made-told (asRecord a) = ap asRecord (record-told a refl)
 -- ---- a piece
 
 module _ (r : Recorder) (out : List ℕ) where
-  in-by : (said : Said) (n : ℕ) (c : Cutter) → takenIn (takenBy r said n c) out ≡ answerBy (λ m. layIn (readingBy r m) out) said
-  unfolding takenIn takenBy answerBy afterwards
+  in-by : (said : Said) (n : ℕ) (c : Cutter) → takenIn (takeBy r said n c) out ≡ answerBy (λ m. layIn (readingBy r m) out) said
+  unfolding takenIn takeBy answerBy afterwards
   in-by invalid n c = refl
   in-by nothing n c = refl
   in-by (ended m) n c = ap (λ (x : Reading). layIn x out) (made-told (readingBy r m))
 
-  left-by : (said : Said) (n : ℕ) (c : Cutter) → takenLeft (takenBy r said n c) out ≡ leftBySaid (λ m d. layLeft (readingBy r m) d) said out
-  unfolding takenLeft takenBy leftBySaid
+  left-by : (said : Said) (n : ℕ) (c : Cutter) → takenLeft (takeBy r said n c) out ≡ leftBySaid (λ m d. layLeft (readingBy r m) d) said out
+  unfolding takenLeft takeBy leftBySaid
   left-by invalid n c = refl
   left-by nothing n c = refl
   left-by (ended m) n c = ap (λ (x : Reading). layLeft x out) (made-told (readingBy r m))

@@ -11,7 +11,7 @@ use Rattle.recorder.specs.Recorder.{Reading, asFixed, asRecord, readingOf, take
 use Rattle.recorder.specs.declared.Made.{Made}
 use Rattle.recorder.specs.declared.Recorded.{Recorded}
 use Rattle.recorder.specs.declared.Recorder.{Recorder}
-use Rattle.recorder.specs.declared.Sending.{Sending}
+use Rattle.recorder.specs.declared.HandedOut.{HandedOut}
 use Rattle.layout.specs.Layout.{recordBytes, recordWidth, fixedBytes, fixedWidth}
 use Rattle.hourheron.specs.Host.{answerOf, answerTo, toldBy}
 use Rattle.hourheron.specs.declared.Answer as host
@@ -20,7 +20,7 @@ use Rattle.hourheron.specs.declared.TakeValue.{TakeValue}
 
 -- ---- what it has to send
 
-abbrev pub sendTo : Sending → SendValue
+abbrev pub sendTo : HandedOut → SendValue
 sendTo s = let a = answerTo (s .wrote) in record { number = a .number; value = a .value; recorder = s .recorder }
 
 -- ---- a message: refused as it is; then 2 with the bytes that its contents take; else their count

@@ -10,10 +10,10 @@ use frame::Wrote;
 use line::Line;
 use record::Figures;
 use record::RecordRead;
+use recorder::HandedOut;
 use recorder::Made;
 use recorder::Recorded;
 use recorder::Recorder;
-use recorder::Sending;
 use recorder::Setup;
 use refusal::Refusal;
 use refusal::Verdict;
@@ -503,7 +503,7 @@ pub extern "C" fn heron_recorder_start(packed: bool, checksum: bool) -> Recorder
     Recorder::start(Setup { packed, checksum })
 }
 
-fn handed_out(sending: Sending) -> SendValue
+fn handed_out(sending: HandedOut) -> SendValue
     ensures { λ r. ⌜ r ≡ sendTo sending ⌝ }
 {
     let wrote = sending.wrote;

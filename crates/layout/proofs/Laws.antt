@@ -6,12 +6,13 @@ use native.Mathlib.Numerals.{add-one}
 use native.Mathlib.Omega.{arith}
 use lib.ListN.{length, drop, getD, length-append, length-drop}
 use lib.Seq.{drop-cons}
+use Rattle.laws.specs.Lowest.{lowestFirst}
 use Rattle.laws.specs.Over.{over}
 use Rattle.laws.proofs.OverLaws.{over-short, over-next}
 use Rattle.record.specs.declared.Record.{Record}
 use Rattle.fixed.specs.declared.Fixed.{Fixed}
 use Rattle.fixed.proofs.Given.{Long}
-use Rattle.layout.specs.Layout.{lowestFirst, fourEach, numbersOf, recordBytes, recordWidth, lensBytes, fixedBytes, fixedWidth}
+use Rattle.layout.specs.Layout.{fourEach, numbersOf, recordBytes, recordWidth, lensBytes, fixedBytes, fixedWidth}
 
 pub number-long : (w n : ℕ) → length (lowestFirst w n) ≡ w
 unfolding lowestFirst

@@ -10,6 +10,7 @@ use lib.Dec.{leb}
 use lib.IntN.{ℤ, pos, negsuc}
 use lib.ListN.{length, take, drop, getD, length-append}
 use lib.Seq.{take-at, drop-at, drop-append-add, getD-append-add}
+use Rattle.laws.specs.Lowest.{lowestFirst, fromLowest}
 use Rattle.sign.specs.Sign.{size}
 use Rattle.codec.specs.Codec.{failing, first}
 use Rattle.codec.proofs.Exact.{first-zero, holds}
@@ -22,19 +23,19 @@ use Rattle.record.proofs.Exact.{serial-long}
 use Rattle.fixed.specs.Fixed.{lensIn, lensLowest, fixedLowest}
 use Rattle.fixed.specs.declared.Fixed.{Fixed}
 use Rattle.fixed.proofs.Given.{Long, items-long}
-use Rattle.layout.specs.Layout.{lowestFirst, fourEach, twos, numbersOf, recordBytes, lensBytes, fixedBytes}
-use Rattle.layout.specs.Unpack.{valueIn, signedBy, bytesAt, unpackRecord, unpackFixed}
+use Rattle.layout.specs.Layout.{fourEach, twos, numbersOf, recordBytes, lensBytes, fixedBytes}
+use Rattle.layout.specs.Unpack.{signedBy, bytesAt, unpackRecord, unpackFixed}
 use Rattle.layout.specs.Promises.{Promised}
 use Rattle.layout.proofs.Laws.{record-long, fixed-long}
 
 -- the lowest bytes of a number hold it
-value-lowest : (w n : ℕ) → n < 256 ^ w → valueIn (lowestFirst w n) ≡ n
-unfolding valueIn lowestFirst
+value-lowest : (w n : ℕ) → n < 256 ^ w → fromLowest (lowestFirst w n) ≡ n
+unfolding fromLowest lowestFirst
 value-lowest zero n h = omega arith
 value-lowest (suc w) n h = rw (value-lowest w (n / 256) (omega (arith, pow-succ' 256 w))) (omega arith)
 
 -- so they hold a field that is in its range
-in-range : (w n top i : ℕ) → top < 256 ^ w → failing (leb n top) (suc i) ≡ 0 → valueIn (lowestFirst w n) ≡ n
+in-range : (w n top i : ℕ) → top < 256 ^ w → failing (leb n top) (suc i) ≡ 0 → fromLowest (lowestFirst w n) ≡ n
 in-range w n top i h z = let k = leb-true n top (holds (leb n top) i z) in value-lowest w n (omega arith)
 
 -- two's complement holds a number of 31 bits and a sign
@@ -50,7 +51,7 @@ unfolding twos
 twos-fits (pos n) h = omega arith
 twos-fits (negsuc n) h = omega arith
 
-pupil-back : (z : ℤ) (i : ℕ) → failing (leb (size z) topPupil) (suc i) ≡ 0 → signedBy (valueIn (lowestFirst 4 (twos z))) ≡ z
+pupil-back : (z : ℤ) (i : ℕ) → failing (leb (size z) topPupil) (suc i) ≡ 0 → signedBy (fromLowest (lowestFirst 4 (twos z))) ≡ z
 pupil-back z i h =
     let k = leb-true (size z) topPupil (holds (leb (size z) topPupil) i h) in
     ap signedBy (value-lowest 4 (twos z) (twos-fits z (omega arith))) ∙ signed-twos z (omega arith)
@@ -140,10 +141,10 @@ module _ (f : Fixed) (rest : List ℕ) (long : Long (f .serial) (f .owner) (f .v
         serial = (ap (take 9) all ∙ take-at (f .serial) _ 9 (long .nine)) j;
         owner = (ap (bytesAt 9 31) all ∙ ap (take 31) (drop-at (f .serial) _ 9 (long .nine)) ∙ take-at (f .owner) _ 31 (long .thirty-one)) j;
         kind = byte-behind 0 j;
-        focal = (ap valueIn (bytes-behind 1 2) ∙ in-range 2 (f .focal) 999 3 (omega arith) (z4 .0)) j;
-        maximum = (ap valueIn (bytes-behind 3 2) ∙ in-range 2 (f .maximum) 999 4 (omega arith) (z5 .0)) j;
+        focal = (ap fromLowest (bytes-behind 1 2) ∙ in-range 2 (f .focal) 999 3 (omega arith) (z4 .0)) j;
+        maximum = (ap fromLowest (bytes-behind 3 2) ∙ in-range 2 (f .maximum) 999 4 (omega arith) (z5 .0)) j;
         letter = byte-behind 5 j;
-        transmission = (ap valueIn (bytes-behind 6 1) ∙ in-range 1 (f .transmission) 99 6 (omega arith) (z6 .1)) j;
+        transmission = (ap fromLowest (bytes-behind 6 1) ∙ in-range 1 (f .transmission) 99 6 (omega arith) (z6 .1)) j;
         version = (bytes-behind 7 4 ∙ take-at (f .version) rest 4 (long .four)) j;
       }
 

@@ -1,15 +1,11 @@
 -- How a record and fixed data lie in a C host's memory: numbers in whole bytes, lowest first.
-use Prim.Native.Nat.{ℕ, zero, suc, _-_, _/_, _%_}
+use Prim.Native.Nat.{ℕ, _-_}
 use mathlib.Core.List.{List, [], _∷_, _++_}
 use lib.IntN.{ℤ, pos, negsuc}
+use Rattle.laws.specs.Lowest.{lowestFirst}
 use Rattle.record.specs.declared.Figures.{Figures}
 use Rattle.record.specs.declared.Record.{Record}
 use Rattle.fixed.specs.declared.Fixed.{Fixed}
-
--- the w lowest bytes of n, lowest first
-unfoldable pub lowestFirst : ℕ → ℕ → List ℕ
-lowestFirst zero n = []
-lowestFirst (suc w) n = n % 256 ∷ lowestFirst w (n / 256)
 
 -- numbers one behind the other, four bytes each
 unfoldable pub fourEach : List ℕ → List ℕ

@@ -1,10 +1,11 @@
 -- What a C host finds in the bytes: the definitions of include/hourheron.h's unpackers, place by place.
-use Prim.Native.Nat.{ℕ, _+_, _-_, _*_}
+use Prim.Native.Nat.{ℕ, _-_}
 use mathlib.Core.Bool.{cond}
-use mathlib.Core.List.{List, [], _∷_}
+use mathlib.Core.List.{List}
 use lib.Dec.{leb}
 use lib.IntN.{ℤ, pos, negsuc}
 use lib.ListN.{take, drop, getD}
+use Rattle.laws.specs.Lowest.{fromLowest}
 use Rattle.record.specs.declared.Record.{Record}
 use Rattle.fixed.specs.declared.Fixed.{Fixed}
 
@@ -12,14 +13,9 @@ use Rattle.fixed.specs.declared.Fixed.{Fixed}
 abbrev pub bytesAt : ℕ → ℕ → List ℕ → List ℕ
 bytesAt at n s = take n (drop at s)
 
--- the number in some bytes, lowest first
-unfoldable pub valueIn : List ℕ → ℕ
-valueIn [] = 0
-valueIn (b ∷ s) = b + 256 * valueIn s
-
--- and in w bytes from a place on: heron_u16_at, heron_u32_at
+-- the number in w bytes from a place on: heron_u16_at, heron_u32_at
 abbrev pub numberAt : ℕ → ℕ → List ℕ → ℕ
-numberAt at w s = valueIn (bytesAt at w s)
+numberAt at w s = fromLowest (bytesAt at w s)
 
 -- heron_i32_at: past 2^31 - 1 stand the numbers below zero
 unfoldable pub signedBy : ℕ → ℤ

@@ -6,8 +6,9 @@ use record::Record;
 ghost use mathlib.Core.Path.{_≡_};
 ghost use Prim.Native.Nat.{_*_, _≤_};
 ghost use lib.ListN.{length};
+ghost use Rattle.laws.specs.Lowest.{lowestFirst};
 ghost use Rattle.laws.specs.Over.{over};
-ghost use Rattle.layout.specs.Layout.{lowestFirst, fourEach, twos, numbersOf, lensBytes, fixedWidth};
+ghost use Rattle.layout.specs.Layout.{fourEach, twos, numbersOf, lensBytes, fixedWidth};
 ghost use Rattle.layout.specs.Contracts.{PutRecord, PutFixed};
 
 // How many bytes a record and fixed data take.

@@ -6,7 +6,8 @@ use mathlib.Core.Path.{_≡_, refl, ap, _∙_}
 use mathlib.Core.List.{List, [], _∷_, _++_, append-nil, append-assoc}
 use lib.ListN.{length}
 use lib.Seq.{append-snoc}
-use Rattle.machine.specs.Machine.{Rules, Event, slots, Events, joined, State, port, underway, next, shows, run, started, sent}
+use Rattle.laws.specs.Flat.{flat}
+use Rattle.machine.specs.Machine.{Rules, Event, slots, Events, State, port, underway, next, shows, run, started, sent}
 use Rattle.machine.specs.Promised.{Sizes, WholeMessages}
 use Rattle.machine.proofs.Step.{Flow, quiet, going, opening, flow, stepped}
 use Rattle.machine.proofs.Counts.{Kept, next-kept}
@@ -54,7 +55,7 @@ module _ {r : Rules} where
     whole : List (List ℕ)
     done : List ℕ
     messages : (d ++ underway s) ∷ started s es ≡ whole ++ (done ++ underway (run s es)) ∷ []
-    bytes : d ++ sent s es ≡ joined whole ++ done
+    bytes : d ++ sent s es ≡ flat whole ++ done
 
   whole-step : (s : State r) (d : List ℕ) (e : Event Given) (es : Events r) → Flow s e (next s e) (shows s e)
       → ((d′ : List ℕ) → WholeFrom (next s e) d′ es) → WholeFrom s d (e ∷ es)

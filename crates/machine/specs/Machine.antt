@@ -159,10 +159,6 @@ abbrev pub listed : {A : Type 0} → Option A → List A
 listed none = []
 listed (some a) = a ∷ []
 
-abbrev pub joined : {A : Type 0} → List (List A) → List A
-joined [] = []
-joined (x ∷ xs) = x ++ joined xs
-
 module _ {r : Rules} where
   open Rules r using (Command, Given)
 

@@ -6,7 +6,8 @@ use mathlib.Core.Logic.{_≢_}
 use mathlib.Core.Option.{Option, none, some}
 use mathlib.Core.List.{List, [], _∷_, _++_}
 use lib.ListN.{length}
-use Rattle.machine.specs.Machine.{Rules, Kind, a-record, Event, received, slot, slots, Events, joined, listed, State, took, dropped, begins, idles, modes, waiting, underway, last, line, choice, rules, start, next, shows, run, taken, acted, started, sent, actedIn}
+use Rattle.laws.specs.Flat.{flat}
+use Rattle.machine.specs.Machine.{Rules, Kind, a-record, Event, received, slot, slots, Events, listed, State, took, dropped, begins, idles, modes, waiting, underway, last, line, choice, rules, start, next, shows, run, taken, acted, started, sent, actedIn}
 
 -- What a port shows of its messages. `Good` is what always holds of its modes.
 pub record Sizes (r : Rules) (Good : r .Modes → Type 0) (W L R : ℕ) : Type 0 where
@@ -78,7 +79,7 @@ module _ {r : Rules} where
     pub whole : List (List ℕ)
     pub done : List ℕ
     pub messages : underway s ∷ started s es ≡ whole ++ (done ++ underway (run s es)) ∷ []
-    pub bytes : sent s es ≡ joined whole ++ done
+    pub bytes : sent s es ≡ flat whole ++ done
 
 module _ (r : Rules) where
   -- "From a start, over every order of received bytes, sending slots and new measurements, with no restart between:"

@@ -86,7 +86,7 @@ pub fn fixed_message(fixed: Fixed, checksum: bool) -> Message
     ensures { λ r. ⌜ FixedMessage fixed checksum r ⌝ }
 {
     let mut bytes = [0u8; MESSAGE_LENGTH];
-    nwriter::put_fixed(&mut bytes, fixed);
+    nwriter::put_fixed_data(&mut bytes, fixed);
     closed(bytes, FIXED_LENGTH, checksum)
 }
 

@@ -10,8 +10,8 @@ use Rattle.frame.specs.declared.Wrote.{Wrote}
 use Rattle.fixed.specs.Form.{fixedForm}
 use Rattle.fixed.specs.declared.Fixed.{Fixed}
 
-abbrev pub PutFixed : List ℕ → Fixed → List ℕ → Type 0
-PutFixed out f after = after ≡ over out 0 (fixedForm .print f)
+abbrev pub PutFixedData : List ℕ → Fixed → List ℕ → Type 0
+PutFixedData out f after = after ≡ over out 0 (fixedForm .print f)
 
 abbrev pub WriteFixed : Fixed → Bool → List ℕ → Wrote → List ℕ → Type 0
 WriteFixed f checksum out w after = WritesMessage fixedForm Setting checksum f out w after

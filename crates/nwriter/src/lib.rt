@@ -9,7 +9,7 @@ ghost use lib.ListN.{length};
 ghost use Rattle.laws.specs.Over.{over};
 ghost use Rattle.fixed.specs.Form.{fixedLength};
 ghost use Rattle.nwriter.specs.Parts.{namesText, lensText, versionText};
-ghost use Rattle.nwriter.specs.Contracts.{PutFixed, WriteFixed};
+ghost use Rattle.nwriter.specs.Contracts.{PutFixedData, WriteFixed};
 
 // Writes N, S and the serial, O and the owner: the first 43 bytes.
 fn put_names(out: &mut [u8], f: Fixed)
@@ -48,8 +48,8 @@ fn put_version(out: &mut [u8], f: Fixed)
 }
 
 // Writes the contents of an N message; nothing where they do not fit.
-pub fn put_fixed(out: &mut [u8], f: Fixed)
-    ensures { λ _. ⌜ PutFixed (now (out .entry)) f (now (out .exit)) ⌝ }
+pub fn put_fixed_data(out: &mut [u8], f: Fixed)
+    ensures { λ _. ⌜ PutFixedData (now (out .entry)) f (now (out .exit)) ⌝ }
 {
     if out.len() < FIXED_LENGTH {
         return;
@@ -71,7 +71,7 @@ pub fn write_fixed(f: Fixed, checksum: bool, out: &mut [u8]) -> Wrote
     let Wrote::Count(n) = answer else {
         return answer;
     };
-    put_fixed(out, f);
+    put_fixed_data(out, f);
     frame::put_ending(out, FIXED_LENGTH, checksum);
     Wrote::Count(n)
 }

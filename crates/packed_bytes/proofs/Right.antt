@@ -30,13 +30,13 @@ use Rattle.serial.proofs.Field.{serial-read}
 use Rattle.gather.specs.Gather.{recordWith}
 use Rattle.gather.proofs.Laws.{record-parts}
 use Rattle.packed_reader.proofs.Parts.{front-width, middle-width, back-width, front-parts, middle-parts, back-parts}
-use Rattle.packed_bytes.specs.Bytes.{holds, sixes, pupilIn, frontIn, middleIn, backIn, recordIn}
+use Rattle.packed_bytes.specs.Bytes.{isGot, sixes, pupilIn, frontIn, middleIn, backIn, packedRecord}
 use Rattle.packed_bytes.proofs.Laws.{groups-only}
 
 -- ---- a test, and what is found where it is passed
 
 abbrev pub Tested : {A : Type 0} → Got A → Bool → A → Type 0
-Tested {A} q b v = (b ≡ holds q) × ((a : A) → q ≡ got a → a ≡ v)
+Tested {A} q b v = (b ≡ isGot q) × ((a : A) → q ≡ got a → a ≡ v)
 
 tested-both : {A B : Type 0} (p : Got A) (q : Got B) {b c : Bool} {v : A} {w : B} → Tested p b v → Tested q c w → Tested (both p q) (b && c) (v, w)
 unfolding both
@@ -137,8 +137,8 @@ text s =
     rw (serial-read u, nine) (tested-passed (textBehind (83 ∷ []) u) 12 (take 9 (drop 30 s)))
 
 module _ (s : List ℕ) (l : length s ≡ packedLength) where
-  pub whole : {b c d : Bool} → b ≡ holds (frontPacked .parse (take 9 s)) → c ≡ holds (middlePacked .parse (take 14 (drop 9 s))) → d ≡ holds (backPacked .parse (take 6 (drop 23 s))) →
-      Tested (packedForm .parse s) ((b && (c && d)) && textBehind (83 ∷ []) (take 10 (drop 29 s))) (recordIn s)
+  pub whole : {b c d : Bool} → b ≡ isGot (frontPacked .parse (take 9 s)) → c ≡ isGot (middlePacked .parse (take 14 (drop 9 s))) → d ≡ isGot (backPacked .parse (take 6 (drop 23 s))) →
+      Tested (packedForm .parse s) ((b && (c && d)) && textBehind (83 ∷ []) (take 10 (drop 29 s))) (packedRecord s)
   unfolding packedForm
   whole e f g =
       let first = length-take-le 9 s (omega arith) in
@@ -159,26 +159,26 @@ not-found : (i : ℕ) (r : Record) → found {A = Record} (wrong i) ≡ accepted
 unfolding found
 not-found i r e = never (cc)
 
-pub holds-found : (q : Got Record) → isAccepted (found q) ≡ holds q
+pub got-found : (q : Got Record) → isAccepted (found q) ≡ isGot q
 unfolding found
-holds-found (got c) = refl
-holds-found (wrong i) = refl
+got-found (got c) = refl
+got-found (wrong i) = refl
 
 -- what the reader accepts is what the bytes of the contents say
-pub says : (checksum : Bool) (m : List ℕ) (r : Record) → readOf packedForm checksum m ≡ accepted r → recordIn (take packedLength m) ≡ r
+pub says : (checksum : Bool) (m : List ℕ) (r : Record) → readOf packedForm checksum m ≡ accepted r → packedRecord (take packedLength m) ≡ r
 says checksum m r e = by (opening checksum packedLength m) refl where
-  found-so : length (take packedLength m) ≡ packedLength → (q : Got Record) → packedForm .parse (take packedLength m) ≡ q → found q ≡ accepted r → recordIn (take packedLength m) ≡ r
+  found-so : length (take packedLength m) ≡ packedLength → (q : Got Record) → packedForm .parse (take packedLength m) ≡ q → found q ≡ accepted r → packedRecord (take packedLength m) ≡ r
   found-so l (got c) k f = sym (whole (take packedLength m) l refl refl refl .1 c k) ∙ found-is c r f
   found-so l (wrong i) k f = never (not-found i r f)
 
-  by : (v : Verdict) → opening checksum packedLength m ≡ v → recordIn (take packedLength m) ≡ r
+  by : (v : Verdict) → opening checksum packedLength m ≡ v → packedRecord (take packedLength m) ≡ r
   by (Refused x) o = never (cc (sym (reads-refused packedForm packedLength packed-form-width checksum m x o) ∙ e))
   by Done o =
       found-so (length-take-le packedLength m (omega (arith, opens checksum packedLength m o .long))) (packedForm .parse (take packedLength m)) refl
       (sym (reads-on packedForm packedLength packed-form-width checksum m o) ∙ e)
 
-pub accepted-so : (checksum : Bool) (m : List ℕ) → isAccepted (readOf packedForm checksum m) ≡ true → readOf packedForm checksum m ≡ accepted (recordIn (take packedLength m))
+pub accepted-so : (checksum : Bool) (m : List ℕ) → isAccepted (readOf packedForm checksum m) ≡ true → readOf packedForm checksum m ≡ accepted (packedRecord (take packedLength m))
 accepted-so checksum m h = by (readOf packedForm checksum m) refl where
-  by : (a : Answer Record) → readOf packedForm checksum m ≡ a → readOf packedForm checksum m ≡ accepted (recordIn (take packedLength m))
+  by : (a : Answer Record) → readOf packedForm checksum m ≡ a → readOf packedForm checksum m ≡ accepted (packedRecord (take packedLength m))
   by (accepted r) e = e ∙ ap accepted (sym (says checksum m r e))
   by (refused x) e = never (cc (sym (ap isAccepted e) ∙ h))

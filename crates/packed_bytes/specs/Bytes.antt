@@ -12,9 +12,9 @@ use Rattle.record.specs.Forms.{Front, Middle, Back, recordOf}
 use Rattle.record.specs.declared.Record.{Record}
 
 -- a value was found
-abbrev pub holds : {A : Type 0} → Got A → Bool
-holds (got a) = true
-holds (wrong i) = false
+abbrev pub isGot : {A : Type 0} → Got A → Bool
+isGot (got a) = true
+isGot (wrong i) = false
 
 -- the low six bits of each byte, as one number
 unfoldable pub sixes : List ℕ → ℕ
@@ -22,8 +22,8 @@ sixes [] = 0
 sixes (d ∷ s) = d % 64 * 64 ^ length s + sixes s
 
 -- of up to five bytes, which is what a number has room for; of more 0
-unfoldable pub number : List ℕ → ℕ
-number s = cond (leb (length s) 5) (sixes s) 0
+unfoldable pub packedNumber : List ℕ → ℕ
+packedNumber s = cond (leb (length s) 5) (sixes s) 0
 
 -- four bytes as one word, the first lowest; those of a list
 abbrev pub quadOf : ℕ → ℕ → ℕ → ℕ → ℕ
@@ -47,5 +47,5 @@ abbrev pub backIn : List ℕ → Back
 backIn s = (sixes (take 2 s), (pupilIn (sixes (take 2 (drop 2 s))), sixes (take 2 (drop 4 s))))
 
 -- the record, its serial behind S
-abbrev pub recordIn : List ℕ → Record
-recordIn m = recordOf ((frontIn (take 9 m), (middleIn (take 14 (drop 9 m)), backIn (take 6 (drop 23 m)))), take 9 (drop 30 m))
+abbrev pub packedRecord : List ℕ → Record
+packedRecord m = recordOf ((frontIn (take 9 m), (middleIn (take 14 (drop 9 m)), backIn (take 6 (drop 23 m)))), take 9 (drop 30 m))

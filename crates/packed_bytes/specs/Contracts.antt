@@ -8,13 +8,13 @@ use Rattle.stop.specs.Stop.{stopIn}
 use Rattle.pupil.specs.Pupil.{signByte}
 use Rattle.frame.specs.Message.{readOf}
 use Rattle.record.specs.Forms.{packedForm}
-use Rattle.packed_bytes.specs.Bytes.{number, quadOf, pupilIn}
+use Rattle.packed_bytes.specs.Bytes.{packedNumber, quadOf, pupilIn}
 
 abbrev pub Quad : ℕ → ℕ → ℕ → ℕ → ℕ → Type 0
 Quad a b c d r = (r ≡ quadOf a b c d) × (r < 4294967296)
 
 abbrev pub NumberIn : List ℕ → ℕ → Type 0
-NumberIn s r = r ≡ number s
+NumberIn s r = r ≡ packedNumber s
 
 abbrev pub StopIn : ℕ → ℕ → ℕ → Type 0
 StopIn a b r = r ≡ stopIn a b

@@ -8,7 +8,7 @@ ghost use lib.Dec.{leb};
 ghost use lib.ListN.{length};
 ghost use Rattle.digits.specs.Digits.{areDigits};
 ghost use Rattle.record.specs.Forms.{frontPacked, middlePacked, backPacked, packedForm, packedLength};
-ghost use Rattle.packed_bytes.specs.Bytes.{holds, sixes, quadIn};
+ghost use Rattle.packed_bytes.specs.Bytes.{isGot, sixes, quadIn};
 ghost use Rattle.packed_bytes.specs.Contracts.{Quad, NumberIn, StopIn, SignIn, IsRight};
 
 // ---- what they say
@@ -109,7 +109,7 @@ fn is_number(s: &[u8], top: u32) -> bool
 // Whether fields 1 to 4 are right.
 fn is_front(s: &[u8]) -> bool
     requires { ⌜ length (now s) ≡ 9 ⌝ }
-    ensures { λ r. ⌜ r ≡ holds (frontPacked .parse (now (s .entry))) ⌝ }
+    ensures { λ r. ⌜ r ≡ isGot (frontPacked .parse (now (s .entry))) ⌝ }
 {
     let focus = (s[0] == b'd') & is_number(&s[1..5], 9999999);
     let aperture = is_number(&s[5..7], 4095);
@@ -121,7 +121,7 @@ fn is_front(s: &[u8]) -> bool
 // Whether fields 5 to 8 are.
 fn is_middle(s: &[u8]) -> bool
     requires { ⌜ length (now s) ≡ 14 ⌝ }
-    ensures { λ r. ⌜ r ≡ holds (middlePacked .parse (now (s .entry))) ⌝ }
+    ensures { λ r. ⌜ r ≡ isGot (middlePacked .parse (now (s .entry))) ⌝ }
 {
     let focal = is_number(&s[0..2], 1023);
     let hyperfocal = is_number(&s[2..6], 9999999);
@@ -133,7 +133,7 @@ fn is_middle(s: &[u8]) -> bool
 // Whether fields 9 to 11 are.
 fn is_back(s: &[u8]) -> bool
     requires { ⌜ length (now s) ≡ 6 ⌝ }
-    ensures { λ r. ⌜ r ≡ holds (backPacked .parse (now (s .entry))) ⌝ }
+    ensures { λ r. ⌜ r ≡ isGot (backPacked .parse (now (s .entry))) ⌝ }
 {
     let view = is_number(&s[0..2], 4095);
     let pupil = is_number(&s[2..4], 4095) & (up_to_five(&s[2..4]) % 2048 <= 999);
@@ -144,7 +144,7 @@ fn is_back(s: &[u8]) -> bool
 // Whether all of a record are.
 fn is_record(s: &[u8]) -> bool
     requires { ⌜ length (now s) ≡ packedLength ⌝ }
-    ensures { λ r. ⌜ r ≡ holds (packedForm .parse (now (s .entry))) ⌝ }
+    ensures { λ r. ⌜ r ≡ isGot (packedForm .parse (now (s .entry))) ⌝ }
 {
     let figures = is_front(&s[0..9]) & (is_middle(&s[9..23]) & is_back(&s[23..29]));
     figures & codec::is_behind(&s[29..PACKED_LENGTH], b"S")

@@ -19,7 +19,7 @@ use Rattle.codec.specs.Codec.{spellings, passed, failing, both, chained, fieldS
 use Rattle.codec.proofs.Exact.{Exact, Codes, holds, fine, first-zero, zero-first, passed-is}
 use Rattle.codec.proofs.Blames.{Alone, number-alone, tagged-alone, ⊗-alone, through-alone}
 use Rattle.codec.proofs.Fields.{tagged-number}
-use Rattle.pointed.specs.Pointed.{point, pointedText, pointed, joined, readPointed}
+use Rattle.pointed.specs.Pointed.{point, pointedText, pointed, withTenths, readPointed}
 
 pub pointed-long : (w n : ℕ) → length (pointedText w n) ≡ w + 2
 pointed-long w n =
@@ -80,15 +80,15 @@ unfolding fieldSays passed
 says-only i n true = refl
 says-only i n false = refl
 
-says-joined : (i top : ℕ) (f g : Field) →
-    fieldSays i (joined top f g) ≡ chained (λ (p : ℕ × ℕ). passed (leb (p .0 * 10 + p .1) top) i (p .0 * 10 + p .1)) (both (fieldSays i f) (fieldSays i g))
-unfolding joined fieldSays chained both
-says-joined i top (Value a) (Value b) = says-only i (a * 10 + b) (leb (a * 10 + b) top)
-says-joined i top (Value a) Wrong = refl
-says-joined i top Wrong g = refl
+says-tenths : (i top : ℕ) (f g : Field) →
+    fieldSays i (withTenths top f g) ≡ chained (λ (p : ℕ × ℕ). passed (leb (p .0 * 10 + p .1) top) i (p .0 * 10 + p .1)) (both (fieldSays i f) (fieldSays i g))
+unfolding withTenths fieldSays chained both
+says-tenths i top (Value a) (Value b) = says-only i (a * 10 + b) (leb (a * 10 + b) top)
+says-tenths i top (Value a) Wrong = refl
+says-tenths i top Wrong g = refl
 
 pub pointed-read : (i w top : ℕ) (s : List ℕ) → length s ≡ w + 2 → fieldSays i (readPointed top s) ≡ pointed i w top .parse s
 unfolding pointed readPointed
 pointed-read i w top s l =
     let e : length s - 2 ≡ w = omega arith in
-    rw (le-ltb (length s) 2 (omega arith), e, says-joined, tagged-number point i 10 48 1 9 (drop w s))
+    rw (le-ltb (length s) 2 (omega arith), e, says-tenths, tagged-number point i 10 48 1 9 (drop w s))

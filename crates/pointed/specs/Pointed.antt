@@ -27,14 +27,14 @@ pointed i w top =
     (number i 10 48 w (top / 10) ⊗ tagged point i (number i 10 48 1 9))
 
 -- the two parts as one number of at most top
-unfoldable pub joined : ℕ → Field → Field → Field
-joined top (Value a) (Value b) = only (leb (a * 10 + b) top) (a * 10 + b)
-joined top (Value a) Wrong = Wrong
-joined top Wrong f = Wrong
+unfoldable pub withTenths : ℕ → Field → Field → Field
+withTenths top (Value a) (Value b) = only (leb (a * 10 + b) top) (a * 10 + b)
+withTenths top (Value a) Wrong = Wrong
+withTenths top Wrong f = Wrong
 
 -- digits, and a point and a digit in the last two bytes
 unfoldable pub readPointed : ℕ → List ℕ → Field
 readPointed top s =
     cond (ltb (length s) 2)
     Wrong
-    (joined top (readDecimal (top / 10) (take (length s - 2) s)) (readTagged point (readDecimal 9) (drop (length s - 2) s)))
+    (withTenths top (readDecimal (top / 10) (take (length s - 2) s)) (readTagged point (readDecimal 9) (drop (length s - 2) s)))

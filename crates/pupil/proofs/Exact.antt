@@ -20,13 +20,13 @@ use Rattle.digits.specs.declared.Field.the-variants.{Value, Wrong}
 use Rattle.codec.specs.Codec.{Got, got, wrong, Codec, spellings, passed, failing, first, both, chained, fieldSays, number, letter, _⊗_}
 use Rattle.codec.proofs.Exact.{Exact, Codes, holds, fine, first-zero, zero-first, passed-is}
 use Rattle.codec.proofs.Blames.{Alone, number-alone, letter-alone, tagged-alone, ⊗-alone, through-alone}
-use Rattle.pupil.specs.Pupil.{pupilOk, pupilOf, zeroToo, signByte, isSign, pupilText, pupilCode, pupilPacked, plusText, minusText, plusPacked, minusPacked, signedField, signedIn, readPupilText, codeIn, readPupilPacked, pupilSays}
+use Rattle.pupil.specs.Pupil.{pupilOk, pupilBy, zeroToo, signByte, isSign, pupilText, pupilCode, pupilPacked, plusText, minusText, plusPacked, minusPacked, signedField, signedIn, readPupilText, codeIn, readPupilPacked, pupilSays}
 use Rattle.pupil.specs.declared.Signed.the-variants as signed
 
 -- ---- a sign and a size
 
 -- each number in range goes out as its sign and size, and comes back
-sent-back : (z : ℤ) → pupilOk z ≡ true → pupilOf (below0 z) (size z) ≡ got z
+sent-back : (z : ℤ) → pupilOk z ≡ true → pupilBy (below0 z) (size z) ≡ got z
 unfolding passed
 sent-back (pos n) h = rw h
 sent-back (negsuc n) h = rw h
@@ -51,7 +51,7 @@ in-range false n h = h
 in-range true zero h = h
 in-range true (suc n) h = h
 
-taken : {C : Type 0} (below : Bool) (n : ℕ) (z : ℤ) → pupilOf below n ≡ got z → (pupilOk z ≡ true → Own below n z ⊎ Minus below n z → C) → C
+taken : {C : Type 0} (below : Bool) (n : ℕ) (z : ℤ) → pupilBy below n ≡ got z → (pupilOk z ≡ true → Own below n z ⊎ Minus below n z → C) → C
 taken below n z e f =
     let p = passed-is (leb n 999) 10 (signedOf below n) z e in
     f (ap pupilOk (sym (p .1)) ∙ in-range below n (p .0)) (subst (λ (y : ℤ). Own below n y ⊎ Minus below n y) (p .1) (taken-of below n))
@@ -96,14 +96,14 @@ abbrev signedDigits : Codec (ℕ × ℕ)
 signedDigits = letter 10 isSign ⊗ number 10 10 48 3 999
 
 abbrev readSigned : ℕ × ℕ → Got ℤ
-readSigned p = pupilOf (eqb (p .0) 45) (p .1)
+readSigned p = pupilBy (eqb (p .0) 45) (p .1)
 
 text-sent : (z : ℤ) (p : ℕ × ℕ) → pupilOk z ≡ true → p ∈ ((signByte z, size z) ∷ zeroToo (45, 0) z) → (signedDigits .lowest p ≡ 0) × (readSigned p ≡ got z)
 unfolding passed failing first
 text-sent z p h (inl e) =
     rw e (
       zero-first _ _ (fine (isSign (signByte z)) 10 (sign-ok z)) (fine (leb (size z) 999) 10 h),
-      ap (λ (b : Bool). pupilOf b (size z)) (sign-is z) ∙ sent-back z h,
+      ap (λ (b : Bool). pupilBy b (size z)) (sign-is z) ∙ sent-back z h,
     )
 text-sent z p h (inr k) = let m = in-too (45, 0) z k in rw (m .0, m .1) (refl, refl)
 
@@ -151,11 +151,11 @@ code-back z k low b n =
     cond-no (2048 + size z) (size z) (b ∙ m) ∙ omega arith)
 
 abbrev readCode : ℕ → Got ℤ
-readCode k = pupilOf (eqb (k / 2048) 1) (k % 2048)
+readCode k = pupilBy (eqb (k / 2048) 1) (k % 2048)
 
 packed-sent : (z : ℤ) (k : ℕ) → pupilOk z ≡ true → k ∈ (pupilCode z ∷ zeroToo 2048 z) → (number 10 64 64 2 4095 .lowest k ≡ 0) × (readCode k ≡ got z)
 unfolding passed failing
-packed-sent z k h (inl e) = let c = code-is z h in rw e (fine _ 10 (le-leb _ _ (c .0)), ap₂ pupilOf (c .1 .0) (c .1 .1) ∙ sent-back z h)
+packed-sent z k h (inl e) = let c = code-is z h in rw e (fine _ 10 (le-leb _ _ (c .0)), ap₂ pupilBy (c .1 .0) (c .1 .1) ∙ sent-back z h)
 packed-sent z k h (inr w) = let m = in-too 2048 z w in rw (m .0, m .1) (refl, refl)
 
 packed-taken : (k : ℕ) (z : ℤ) → k ≤ 4095 → Own (eqb (k / 2048) 1) (k % 2048) z ⊎ Minus (eqb (k / 2048) 1) (k % 2048) z → k ∈ (pupilCode z ∷ zeroToo 2048 z)
@@ -205,7 +205,7 @@ packed-zeros = record { exact = packed-exact; sendable = refl; sent = refl; spel
 
 -- ---- the code's readers
 
-field-says : (below : Bool) (n : ℕ) → pupilSays (signedField below n) ≡ pupilOf below n
+field-says : (below : Bool) (n : ℕ) → pupilSays (signedField below n) ≡ pupilBy below n
 unfolding pupilSays signedField passed
 field-says below n = told (leb n 999) (λ y. rw y) (λ m. rw m)
 

@@ -18,8 +18,8 @@ abbrev pub pupilOk : ℤ → Bool
 pupilOk z = leb (size z) 999
 
 -- the number with this sign and size
-abbrev pub pupilOf : Bool → ℕ → Got ℤ
-pupilOf below n = passed (leb n 999) 10 (signedOf below n)
+abbrev pub pupilBy : Bool → ℕ → Got ℤ
+pupilBy below n = passed (leb n 999) 10 (signedOf below n)
 
 -- a code of zero besides the one that is sent
 abbrev pub zeroToo : {A : Type 0} → A → ℤ → List A
@@ -35,14 +35,14 @@ isSign x = eqb x 43 || eqb x 45
 -- E, sign, three digits
 unfoldable pub pupilText : Codec ℤ
 pupilText =
-    tagged 69 10 (through 10 pupilOk (λ z. (signByte z, size z)) (zeroToo (45, 0)) (λ p. pupilOf (eqb (p .0) 45) (p .1)) (letter 10 isSign ⊗ number 10 10 48 3 999))
+    tagged 69 10 (through 10 pupilOk (λ z. (signByte z, size z)) (zeroToo (45, 0)) (λ p. pupilBy (eqb (p .0) 45) (p .1)) (letter 10 isSign ⊗ number 10 10 48 3 999))
 
 -- sign and ten-bit magnitude in two groups: first byte 01S0xxxx, S is 1 for negative
 abbrev pub pupilCode : ℤ → ℕ
 pupilCode z = cond (below0 z) (2048 + size z) (size z)
 
 unfoldable pub pupilPacked : Codec ℤ
-pupilPacked = through 10 pupilOk pupilCode (zeroToo 2048) (λ k. pupilOf (eqb (k / 2048) 1) (k % 2048)) (number 10 64 64 2 4095)
+pupilPacked = through 10 pupilOk pupilCode (zeroToo 2048) (λ k. pupilBy (eqb (k / 2048) 1) (k % 2048)) (number 10 64 64 2 4095)
 
 -- ---- zero, as it is sent and as other makers send it
 

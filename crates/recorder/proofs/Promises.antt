@@ -18,11 +18,11 @@ use Rattle.frame.specs.declared.Wrote.the-variants.{Count, Refused}
 use Rattle.cutter.specs.Cutter.{Said, invalid, nothing, ended, cutOf, wholeLeft}
 use Rattle.cutter.specs.declared.Cutter.{Cutter}
 use Rattle.cutter.proofs.Promises as cutter
-use Rattle.recorder.specs.Recorder.{validRecorder, asking, handsOut, sendOf, readingOf, toldAs, takenBy, takeOf}
+use Rattle.recorder.specs.Recorder.{validRecorder, asking, handsOut, sendOf, readingOf, toldAs, takeBy, takeOf}
 use Rattle.recorder.specs.Promises.{Promised}
 use Rattle.recorder.specs.declared.Setup.{Setup}
 use Rattle.recorder.specs.declared.Recorder.{Recorder}
-use Rattle.recorder.specs.declared.Sending.{Sending}
+use Rattle.recorder.specs.declared.HandedOut.{HandedOut}
 use Rattle.recorder.proofs.Sends.{send-invalid, send-nothing, send-short, send-asking}
 use Rattle.recorder.proofs.Readings.{waiting, opened, waits, opens}
 use Rattle.recorder.proofs.Running.{take-used, take-cutter, take-sent, readings, left, elsewhere, runs}
@@ -35,8 +35,8 @@ unfolding readingOf toldAs
 opening-read s true m = refl
 opening-read s false m = refl
 
-opening-by : (r : Recorder) (x : Said) (n : ℕ) (c : Cutter) → takenBy r x n c .made .opening ≡ (takenBy r x n c .ended && not (r .opened))
-unfolding takenBy
+opening-by : (r : Recorder) (x : Said) (n : ℕ) (c : Cutter) → takeBy r x n c .made .opening ≡ (takeBy r x n c .ended && not (r .opened))
+unfolding takeBy
 opening-by r invalid n c = refl
 opening-by r nothing n c = refl
 opening-by r (ended m) n c = opening-read (r .setup) (r .opened) m
@@ -51,27 +51,27 @@ module _ (r : Recorder) (p : List ℕ) where
   said-invalid e = taken-16 r (cutOf (r .cutter) p .said) _ _ (cut-not (r .cutter) p) e
 
   take-16 : (takeOf r p .made .verdict ≡ verdict.Refused State) ↔ (161 < r .cutter .len)
-  unfolding takeOf takenBy
+  unfolding takeOf takeBy
   take-16 =
       let t = cutOf (r .cutter) p in
       let c = cutter.promised .each-call .refused (r .cutter) p in
-      (λ e. c .0 (said-invalid e), λ v. ap (λ (x : Said). takenBy r x (t .used) (t .cutter) .made .verdict) (c .1 v))
+      (λ e. c .0 (said-invalid e), λ v. ap (λ (x : Said). takeBy r x (t .used) (t .cutter) .made .verdict) (c .1 v))
 
   take-same : takeOf r p .made .verdict ≡ verdict.Refused State → (takeOf r p .recorder ≡ r) × (takeOf r p .used ≡ 0)
-  unfolding takeOf takenBy
+  unfolding takeOf takeBy
   take-same e =
       let i = said-invalid e in
       let c = cutter.promised .each-call .refused-same (r .cutter) p i in
-      ((λ j. takenBy r (i j) (c .1 j) (c .0 j) .recorder), take-used r p ∙ c .1)
+      ((λ j. takeBy r (i j) (c .1 j) (c .0 j) .recorder), take-used r p ∙ c .1)
 
-ended-only : (r : Recorder) (x : Said) (used : ℕ) (c : Cutter) → takenBy r x used c .ended ≡ true → (m : Answer (List ℕ)) × (x ≡ ended m)
-unfolding takenBy
+ended-only : (r : Recorder) (x : Said) (used : ℕ) (c : Cutter) → takeBy r x used c .ended ≡ true → (m : Answer (List ℕ)) × (x ≡ ended m)
+unfolding takeBy
 ended-only r invalid used c e = absurd (false≢true e)
 ended-only r nothing used c e = absurd (false≢true e)
 ended-only r (ended m) used c e = (m, refl)
 
 take-ended : (r : Recorder) (p : List ℕ) → (takeOf r p .ended ≡ true) ↔ ((m : Answer (List ℕ)) × (cutOf (r .cutter) p .said ≡ ended m))
-unfolding takeOf takenBy
+unfolding takeOf takeBy
 take-ended r p = (ended-only r (cutOf (r .cutter) p .said) _ _, λ q. rw (q .1))
 
 -- ---- sending
@@ -89,16 +89,16 @@ module _ (r : Recorder) (out : List ℕ) where
       (sendOf r out .wrote ≡ Count 2) × (wholeLeft (handsOut r) out ≡ 78 ∷ 13 ∷ drop 2 out) × (sendOf r out .recorder .sent ≡ true)
   asks v s h =
       let g = send-asking r out v s h in (
-        ap (λ (x : Sending). x .wrote) (sym (g .answers)),
+        ap (λ (x : HandedOut). x .wrote) (sym (g .answers)),
         sym (g .leaves) ∙ over-fits out asking 0 (omega arith),
-        ap (λ (x : Sending). x .recorder .sent) (sym (g .answers)),
+        ap (λ (x : HandedOut). x .recorder .sent) (sym (g .answers)),
       )
 
   asks-once : validRecorder r ≡ true → r .sent ≡ true →
       (sendOf r out .wrote ≡ Count 0) × (wholeLeft (handsOut r) out ≡ out) × (sendOf r out .recorder ≡ r)
   asks-once v s =
       let g = send-nothing r out v s in
-      (ap (λ (x : Sending). x .wrote) (sym (g .answers)), sym (g .leaves), ap (λ (x : Sending). x .recorder) (sym (g .answers)))
+      (ap (λ (x : HandedOut). x .wrote) (sym (g .answers)), sym (g .leaves), ap (λ (x : HandedOut). x .recorder) (sym (g .answers)))
 
   send-16 : (sendOf r out .wrote ≡ Refused State) ↔ (161 < r .cutter .len)
   send-16 = (
@@ -107,7 +107,7 @@ module _ (r : Recorder) (out : List ℕ) where
         (λ v s. let g = send-nothing r out v s .answers in never (cc))
         (λ v s h. let g = send-short r out v s h .answers in never (cc))
         (λ v s h. let g = send-asking r out v s h .answers in never (cc)),
-    λ h. ap (λ (x : Sending). x .wrote) (sym (send-invalid r out (lt-leb (r .cutter .len) 161 h) .answers)),
+    λ h. ap (λ (x : HandedOut). x .wrote) (sym (send-invalid r out (lt-leb (r .cutter .len) 161 h) .answers)),
   )
 
   send-2 : (n : ℕ) → (sendOf r out .wrote ≡ Refused (Room n)) ↔ ((validRecorder r ≡ true) × (r .sent ≡ false) × (length out < 2) × (n ≡ 2))
@@ -117,19 +117,19 @@ module _ (r : Recorder) (out : List ℕ) where
         (λ v s. let g = send-nothing r out v s .answers in never (cc))
         (λ v s h. let g = send-short r out v s h .answers in (v, s, h, cc))
         (λ v s h. let g = send-asking r out v s h .answers in never (cc)),
-    λ h. ap (λ (x : Sending). x .wrote) (sym (send-short r out (h .0) (h .1) (h .2) .answers)) ∙ ap (λ (j : ℕ). Refused (Room j)) (sym (h .3)),
+    λ h. ap (λ (x : HandedOut). x .wrote) (sym (send-short r out (h .0) (h .1) (h .2) .answers)) ∙ ap (λ (j : ℕ). Refused (Room j)) (sym (h .3)),
   )
 
   send-same : (x : Refusal) → sendOf r out .wrote ≡ Refused x → (sendOf r out .recorder ≡ r) × (wholeLeft (handsOut r) out ≡ out)
   send-same x e =
       cases
-      (λ v. let g = send-invalid r out v in (ap (λ (y : Sending). y .recorder) (sym (g .answers)), sym (g .leaves)))
+      (λ v. let g = send-invalid r out v in (ap (λ (y : HandedOut). y .recorder) (sym (g .answers)), sym (g .leaves)))
       (λ v s. let g = send-nothing r out v s .answers in never (cc))
-      (λ v s h. let g = send-short r out v s h in (ap (λ (y : Sending). y .recorder) (sym (g .answers)), sym (g .leaves)))
+      (λ v s h. let g = send-short r out v s h in (ap (λ (y : HandedOut). y .recorder) (sym (g .answers)), sym (g .leaves)))
       (λ v s h. let g = send-asking r out v s h .answers in never (cc))
 
 pub promised : Promised
-unfolding toldAs takeOf takenBy
+unfolding toldAs takeOf takeBy
 promised = record {
   of-messages = record {
     first-off = refl;

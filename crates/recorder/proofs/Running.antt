@@ -9,8 +9,8 @@ use Rattle.cutter.specs.Cutter.{fresh, heldFrom, Said, invalid, nothing, ended,
 use Rattle.cutter.specs.Stream.{messages, tail, judgedAll, saidBy, Fed}
 use Rattle.cutter.specs.declared.Cutter.{Cutter}
 use Rattle.cutter.proofs.Promises as cutter
-use Rattle.recorder.specs.Recorder.{startOf, validRecorder, afterSend, sendOf, Reading, readingOf, opensBy, toldAs, takenBy, takeOf}
-use Rattle.recorder.specs.Messages.{readingFor, readingsFrom, openFrom, toldAll, shownBy, Ran}
+use Rattle.recorder.specs.Recorder.{startOf, validRecorder, afterSend, sendOf, Reading, readingOf, opensBy, toldAs, takeBy, takeOf}
+use Rattle.recorder.specs.Messages.{readingFor, readingsFrom, openFrom, toldAll, madeBy, Ran}
 use Rattle.recorder.specs.Promises.{Run}
 use Rattle.recorder.specs.declared.Setup.{Setup}
 use Rattle.recorder.specs.declared.Recorder.{Recorder}
@@ -44,35 +44,35 @@ abbrev Shows : Setup → Bool → List (Answer (List ℕ)) → List Made → Boo
 Shows s o js xs end = (xs ≡ toldAll (readingsOver s o js)) × (end ≡ openOver s o js)
 
 module _ (r : Recorder) (used : ℕ) (c : Cutter) where
-  taken-used : (x : Said) → takenBy r x used c .used ≡ used
-  unfolding takenBy
+  taken-used : (x : Said) → takeBy r x used c .used ≡ used
+  unfolding takeBy
   taken-used invalid = refl
   taken-used nothing = refl
   taken-used (ended m) = refl
 
-  taken-cutter : (x : Said) → takenBy r x used c .recorder .cutter ≡ c
-  unfolding takenBy
+  taken-cutter : (x : Said) → takeBy r x used c .recorder .cutter ≡ c
+  unfolding takeBy
   taken-cutter invalid = refl
   taken-cutter nothing = refl
   taken-cutter (ended m) = refl
 
-  taken-setup : (x : Said) → takenBy r x used c .recorder .setup ≡ r .setup
-  unfolding takenBy
+  taken-setup : (x : Said) → takeBy r x used c .recorder .setup ≡ r .setup
+  unfolding takeBy
   taken-setup invalid = refl
   taken-setup nothing = refl
   taken-setup (ended m) = refl
 
-  taken-sent : (x : Said) → takenBy r x used c .recorder .sent ≡ r .sent
-  unfolding takenBy
+  taken-sent : (x : Said) → takeBy r x used c .recorder .sent ≡ r .sent
+  unfolding takeBy
   taken-sent invalid = refl
   taken-sent nothing = refl
   taken-sent (ended m) = refl
 
   -- the message that ended comes before those that follow
   taken-shows : (x : Said) (js : List (Answer (List ℕ))) (xs : List Made) (end : Bool) →
-      Shows (r .setup) (takenBy r x used c .recorder .opened) js xs end →
-      Shows (r .setup) (r .opened) (saidBy accepted x ++ js) (shownBy (takenBy r x used c) ++ xs) end
-  unfolding takenBy saidBy thenRead shownBy toldAll readingsOver openOver
+      Shows (r .setup) (takeBy r x used c .recorder .opened) js xs end →
+      Shows (r .setup) (r .opened) (saidBy accepted x ++ js) (madeBy (takeBy r x used c) ++ xs) end
+  unfolding takeBy saidBy thenRead madeBy toldAll readingsOver openOver
   taken-shows invalid js xs end h = h
   taken-shows nothing js xs end h = h
   taken-shows (ended (accepted m)) js xs end h = (ap (λ (y : List Made). toldAs (readingOf (r .setup) (r .opened) (accepted m)) ∷ y) (h .0), h .1)
@@ -168,7 +168,7 @@ fed-ran (Fed.handed c d p t s js ks e f g) r i z k =
     let cut = take-cutter r p ∙ ap (λ (x : Cutter). cutOf x p .cutter) z in
     let used = take-used r p ∙ ap (λ (x : Cutter). cutOf x p .used) z in
     let h = fed-ran g (y .recorder) (drop (y .used) p ++ t) cut (ap (λ (n : ℕ). drop n p ++ t) used) in
-    record { made = shownBy y ++ h .made; left = h .left; ran = Ran.takes r (h .left) p t i (h .made) (shownBy y ++ h .made) (k ∙ e) refl (h .ran) }
+    record { made = madeBy y ++ h .made; left = h .left; ran = Ran.takes r (h .left) p t i (h .made) (madeBy y ++ h .made) (k ∙ e) refl (h .ran) }
 
 pub runs : (r : Recorder) (i : List ℕ) → validRecorder r ≡ true → Run r i
 runs r i v = fed-ran (cutter.promised .any-cutting .runs accepted (r .cutter) i v .fed) r i refl refl

@@ -18,14 +18,14 @@ use Rattle.cutter.specs.Cutter.{thenRead, wholeIn, wholeLeft}
 use Rattle.recorder.specs.Recorder.{validRecorder, asking, toSend, handsOut, afterSend, sendOf}
 use Rattle.recorder.specs.Contracts.{RecorderSend}
 use Rattle.recorder.specs.declared.Recorder.{Recorder}
-use Rattle.recorder.specs.declared.Sending.{Sending}
+use Rattle.recorder.specs.declared.HandedOut.{HandedOut}
 
 module _ (r : Recorder) (out : List ℕ) where
   -- by what it hands out
-  abbrev Hands : Answer (List ℕ) → Sending → List ℕ → Type 0
+  abbrev Hands : Answer (List ℕ) → HandedOut → List ℕ → Type 0
   Hands a s after = Gives (record { wrote = wroteOf (wholeIn out a); recorder = afterSend (wholeIn out a) r }) (wholeLeft a out) s after
 
-  by-hands : {a : Answer (List ℕ)} (s : Sending) (after : List ℕ) → handsOut r ≡ a → Hands a s after → RecorderSend r out s after
+  by-hands : {a : Answer (List ℕ)} (s : HandedOut) (after : List ℕ) → handsOut r ≡ a → Hands a s after → RecorderSend r out s after
   unfolding sendOf
   by-hands s after e = subst (λ (a : Answer (List ℕ)). Hands a s after) (sym e)
 

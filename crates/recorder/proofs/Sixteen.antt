@@ -20,7 +20,7 @@ use Rattle.fixed.specs.declared.Fixed.{Fixed}
 use Rattle.cutter.specs.Cutter.{Said, invalid, nothing, ended, cutOf, thenRead}
 use Rattle.cutter.specs.declared.Cutter.{Cutter}
 use Rattle.cutter.proofs.Nine.{only-9}
-use Rattle.recorder.specs.Recorder.{formOf, readingOf, toldAs, takenBy}
+use Rattle.recorder.specs.Recorder.{formOf, readingOf, toldAs, takeBy}
 use Rattle.recorder.specs.declared.Setup.{Setup}
 use Rattle.recorder.specs.declared.Recorder.{Recorder}
 
@@ -72,8 +72,8 @@ cut-not c p e = let k = only-9 c p State e in never (cc)
 -- ---- a call
 
 pub taken-16 : (r : Recorder) (x : Said) (used : ℕ) (c : Cutter) → (x ≡ ended (refused State) → ⊥) →
-    takenBy r x used c .made .verdict ≡ Refused State → x ≡ invalid
-unfolding takenBy
+    takeBy r x used c .made .verdict ≡ Refused State → x ≡ invalid
+unfolding takeBy
 taken-16 r invalid used c h e = refl
 taken-16 r nothing used c h e = never (cc)
 taken-16 r (ended m) used c h e = absurd (h (ap ended (told-16 (r .setup) (r .opened) m e)))

@@ -12,7 +12,7 @@ use Rattle.fixed.specs.Form.{fixedForm}
 use Rattle.fixed.specs.declared.Fixed.{Fixed}
 use Rattle.cutter.specs.Cutter.{cutterLength, fresh, validCutter, Cutting, thenRead, endIn}
 use Rattle.cutter.proofs.Cuts.{cut-none, cut-some}
-use Rattle.recorder.specs.Recorder.{asFixed, asRecord, formOf, readingOf, opensBy, toldAs, cutOn, takenBy, takeOf, readingIn, holdOf}
+use Rattle.recorder.specs.Recorder.{asFixed, asRecord, formOf, readingOf, opensBy, toldAs, cutOn, takeBy, takeOf, readingIn, holdOf}
 use Rattle.recorder.specs.declared.Setup.{Setup}
 use Rattle.recorder.specs.declared.Recorder.{Recorder}
 
@@ -43,9 +43,9 @@ opens-done s false m = accepted-done (thenRead (readOf fixedForm false) m)
 module _ (r : Recorder) (p : List ℕ) (long : length (r .cutter .bytes) ≡ cutterLength) where
   -- no message ends
   pub take-none : endIn (r .cutter) p ≡ 0 → takeOf r p ≡ holdOf r p
-  unfolding takeOf takenBy holdOf
+  unfolding takeOf takeBy holdOf
   take-none z =
-      ap (λ (t : Cutting). takenBy r (t .said) (t .used) (t .cutter)) (cut-none (r .cutter) p long z)
+      ap (λ (t : Cutting). takeBy r (t .said) (t .used) (t .cutter)) (cut-none (r .cutter) p long z)
       ∙ told (validCutter (r .cutter)) (λ v. rw v) (λ v. rw v)
 
   -- one ends
@@ -56,7 +56,7 @@ module _ (r : Recorder) (p : List ℕ) (long : length (r .cutter .bytes) ≡ cut
         ended = true;
         recorder = cutOn r fresh (opensBy (r .opened) (readingIn r (take e p)));
       })
-  unfolding takeOf takenBy readingIn
+  unfolding takeOf takeBy readingIn
   take-some e z h =
       let g = cut-some (r .cutter) p e long z h in
-      (g .0, ap (λ (t : Cutting). takenBy r (t .said) (t .used) (t .cutter)) (g .1))
+      (g .0, ap (λ (t : Cutting). takeBy r (t .said) (t .used) (t .cutter)) (g .1))

@@ -7,7 +7,7 @@ use Rattle.laws.proofs.OneAnswer.{one-answer, one-outcome}
 use Rattle.recorder.specs.Contracts.{SetupFirst, RecorderStart, RecorderIsValid, RecorderSend, RecorderTake}
 use Rattle.recorder.specs.declared.Setup.{Setup}
 use Rattle.recorder.specs.declared.Recorder.{Recorder}
-use Rattle.recorder.specs.declared.Sending.{Sending}
+use Rattle.recorder.specs.declared.HandedOut.{HandedOut}
 use Rattle.recorder.specs.declared.Recorded.{Recorded}
 
 pub one-first : {r r′ : Setup} → SetupFirst r → SetupFirst r′ → r ≡ r′
@@ -19,7 +19,7 @@ one-start setup = one-answer
 pub one-is-valid : (self : Recorder) {r r′ : Bool} → RecorderIsValid self r → RecorderIsValid self r′ → r ≡ r′
 one-is-valid self = one-answer
 
-pub one-send : (self : Recorder) (out : List ℕ) {r r′ : Sending} {after after′ : List ℕ} →
+pub one-send : (self : Recorder) (out : List ℕ) {r r′ : HandedOut} {after after′ : List ℕ} →
     RecorderSend self out r after → RecorderSend self out r′ after′ → (r ≡ r′) × (after ≡ after′)
 one-send self out = one-outcome
 

@@ -34,13 +34,13 @@ toldAll (x ∷ xs) = toldAs x ∷ toldAll xs
 -- ---- the calls
 
 -- what a call makes known: one message, or none
-unfoldable pub shownBy : Recorded → List Made
-shownBy x = cond (x .ended) (x .made ∷ []) []
+unfoldable pub madeBy : Recorded → List Made
+madeBy x = cond (x .ended) (x .made ∷ []) []
 
 -- an input taken in pieces of any length, what a call did not use handed in again, and sending between them at any time:
 -- from r, the whole input, all that is made known, the recorder left
 pub data Ran : Recorder → List ℕ → List Made → Recorder → Type 0 where
   none : (r : Recorder) → Ran r [] [] r
   sends : (r q : Recorder) (out s : List ℕ) (xs : List Made) → Ran (sendOf r out .recorder) s xs q → Ran r s xs q
-  takes : (r q : Recorder) (p t s : List ℕ) (xs ys : List Made) → s ≡ p ++ t → ys ≡ shownBy (takeOf r p) ++ xs →
+  takes : (r q : Recorder) (p t s : List ℕ) (xs ys : List Made) → s ≡ p ++ t → ys ≡ madeBy (takeOf r p) ++ xs →
       Ran (takeOf r p .recorder) (drop (takeOf r p .used) p ++ t) xs q → Ran r s ys q

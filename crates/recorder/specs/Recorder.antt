@@ -19,7 +19,7 @@ use Rattle.cutter.specs.Cutter.{fresh, validCutter, heldFrom, heldMessage, Said
 use Rattle.cutter.specs.declared.Cutter.{Cutter}
 use Rattle.recorder.specs.declared.Setup.{Setup}
 use Rattle.recorder.specs.declared.Recorder.{Recorder}
-use Rattle.recorder.specs.declared.Sending.{Sending}
+use Rattle.recorder.specs.declared.HandedOut.{HandedOut}
 use Rattle.recorder.specs.declared.Made.{Made}
 use Rattle.recorder.specs.declared.Recorded.{Recorded}
 
@@ -52,7 +52,7 @@ unfoldable pub afterSend : Answer ℕ → Recorder → Recorder
 afterSend (accepted n) r = record { cutter = r .cutter; setup = r .setup; sent = true; opened = r .opened }
 afterSend (refused x) r = r
 
-unfoldable pub sendOf : Recorder → List ℕ → Sending
+unfoldable pub sendOf : Recorder → List ℕ → HandedOut
 sendOf r out = record { wrote = wroteOf (wholeIn out (handsOut r)); recorder = afterSend (wholeIn out (handsOut r)) r }
 
 -- ---- a message
@@ -92,21 +92,21 @@ abbrev pub cutOn : Recorder → Cutter → Bool → Recorder
 cutOn r c opened = record { cutter = c; setup = r .setup; sent = r .sent; opened = opened }
 
 -- by what the cutter says: "only 16 leaves the cutter as it was"
-unfoldable pub takenBy : Recorder → Said → ℕ → Cutter → Recorded
-takenBy r invalid used c = record { made = nothingBut (Refused State); used = used; ended = false; recorder = cutOn r c (r .opened) }
-takenBy r nothing used c = record { made = nothingBut Done; used = used; ended = false; recorder = cutOn r c (r .opened) }
-takenBy r (ended m) used c =
+unfoldable pub takeBy : Recorder → Said → ℕ → Cutter → Recorded
+takeBy r invalid used c = record { made = nothingBut (Refused State); used = used; ended = false; recorder = cutOn r c (r .opened) }
+takeBy r nothing used c = record { made = nothingBut Done; used = used; ended = false; recorder = cutOn r c (r .opened) }
+takeBy r (ended m) used c =
     let x = readingOf (r .setup) (r .opened) m in
     record { made = toldAs x; used = used; ended = true; recorder = cutOn r c (opensBy (r .opened) x) }
 
 unfoldable pub takeOf : Recorder → List ℕ → Recorded
-takeOf r p = let t = cutOf (r .cutter) p in takenBy r (t .said) (t .used) (t .cutter)
+takeOf r p = let t = cutOf (r .cutter) p in takeBy r (t .said) (t .used) (t .cutter)
 
 -- ---- the parts of a call
 
 -- the message that ends with this part, read as a record
-unfoldable pub recordIn : Recorder → List ℕ → Answer Record
-recordIn r part = thenRead (readOf (formOf (r .setup)) (r .setup .checksum)) (heldMessage (heldFrom (r .cutter) part))
+unfoldable pub recordEnding : Recorder → List ℕ → Answer Record
+recordEnding r part = thenRead (readOf (formOf (r .setup)) (r .setup .checksum)) (heldMessage (heldFrom (r .cutter) part))
 
 -- what is made of it
 unfoldable pub readingIn : Recorder → List ℕ → Reading

@@ -9,7 +9,7 @@ use refusal::Refusal;
 use refusal::Verdict;
 ghost use mathlib.Core.Path.{_≡_};
 ghost use Rattle.record.specs.Record.{recordRead};
-ghost use Rattle.recorder.specs.Recorder.{nothingBut, recordIn, readingIn, toldAs, holdOf};
+ghost use Rattle.recorder.specs.Recorder.{nothingBut, recordEnding, readingIn, toldAs, holdOf};
 ghost use Rattle.recorder.specs.Contracts.{SetupFirst, RecorderStart, RecorderIsValid, RecorderSend, RecorderTake};
 
 // The settings.
@@ -32,7 +32,7 @@ pub struct Recorder {
 }
 
 // What it hands out to be sent.
-pub struct Sending {
+pub struct HandedOut {
     // How many bytes; 16, then 2.
     pub wrote: Wrote,
     pub recorder: Recorder,
@@ -103,23 +103,23 @@ impl Recorder {
     }
 
     // Puts what it has to send into lent memory: N CR the first time, then nothing.
-    pub fn send(self, out: &mut [u8]) -> Sending
+    pub fn send(self, out: &mut [u8]) -> HandedOut
         ensures { λ r. ⌜ RecorderSend self (now (out .entry)) r (now (out .exit)) ⌝ }
     {
         if !self.is_valid() {
-            return Sending {
+            return HandedOut {
                 wrote: Wrote::Refused(Refusal::State),
                 recorder: self,
             };
         }
         if self.sent {
-            return Sending {
+            return HandedOut {
                 wrote: Wrote::Count(0),
                 recorder: self,
             };
         }
         if out.len() < 2 {
-            return Sending {
+            return HandedOut {
                 wrote: Wrote::Refused(Refusal::Room(2)),
                 recorder: self,
             };
@@ -127,7 +127,7 @@ impl Recorder {
         lent::put_pair(out, 0, b'N', b'\r');
         let cutter = self.cutter;
         let setup = self.setup;
-        Sending {
+        HandedOut {
             wrote: Wrote::Count(2),
             recorder: Recorder {
                 cutter,
@@ -140,7 +140,7 @@ impl Recorder {
 
     // Reads the message that ends with this part as a record.
     fn read_record(self, part: &[u8]) -> RecordRead
-        ensures { λ r. ⌜ r ≡ recordRead (recordIn self (now (part .entry))) ⌝ }
+        ensures { λ r. ⌜ r ≡ recordRead (recordEnding self (now (part .entry))) ⌝ }
     {
         let cutter = self.cutter;
         let setup = self.setup;

@@ -178,8 +178,8 @@ fn rate(source: Source, n: u8) -> Acted
 }
 
 // The start-up letter after X or Y: B and b become this one.
-fn turned(to: u8, letter: u8) -> u8
-    ensures { λ r. ⌜ r ≡ table.turned to letter ⌝ }
+fn relettered(to: u8, letter: u8) -> u8
+    ensures { λ r. ⌜ r ≡ table.relettered to letter ⌝ }
 {
     if (letter == b'B') | (letter == b'b') {
         return to;
@@ -187,13 +187,13 @@ fn turned(to: u8, letter: u8) -> u8
     letter
 }
 
-// X, Y: the display unit, and the start-up letter turned.
+// X, Y: the display unit, and the start-up letter by it.
 fn unit(source: Source, unit: u8, to: u8, byte: u8) -> Acted
     ensures { λ r. ⌜ r ≡ actedOf (table.replies (table.unitWith unit to source) (byte ∷ [])) ⌝ }
 {
     let mut settings = source.settings;
     let mut fixed = settings.fixed;
-    fixed.letter = turned(to, fixed.letter);
+    fixed.letter = relettered(to, fixed.letter);
     settings.fixed = fixed;
     let mut modes = source.modes;
     modes.unit = unit;

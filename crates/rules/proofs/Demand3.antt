@@ -6,7 +6,7 @@ use Rattle.machine.proofs.Promise.{promised}
 use Rattle.rules.specs.Lens.{lens, Good, longestReply, longestRecord, longestMessage}
 use Rattle.rules.specs.Promise.{Follows, Demand3}
 use Rattle.rules.proofs.Lengths.{record-at-most, record-some}
-use Rattle.rules.proofs.Kept.{reply-at-most, uncounted-off, act-good, ended-good, updated-good}
+use Rattle.rules.proofs.Kept.{reply-at-most, uncounted-off, act-good, ended-good, given-good}
 
 pub sizes : Sizes lens Good longestMessage longestReply longestRecord
 sizes = record {
@@ -20,7 +20,7 @@ sizes = record {
   ended-same = λ s g. refl;
   act-good = act-good;
   ended-good = ended-good;
-  update-good = updated-good;
+  update-good = given-good;
 }
 
 -- the bounds follow from the sizes

@@ -27,12 +27,11 @@ use Rattle.state.specs.declared.State.{State}
 use Rattle.state.specs.declared.State.the-variants.{Ready, Running}
 use Rattle.state.specs.declared.Sending.the-variants as sending
 use Rattle.state.specs.State.{validSource}
-use Rattle.rules.specs.Does.{Outcome, withModes, filmNow, rateNext, rateMoved, unitWith, turned, letterNow, isOn, continuous, replies, silent, runs, isN, wakes, readies, doesIn, does, countsIn, counts}
-use Rattle.rules.specs.Lens.{Given, measurement, measured, updated, Good, longestReply}
+use Rattle.rules.specs.Does.{Outcome, withModes, filmNow, rateNext, rateMoved, unitWith, relettered, letterNow, isOn, continuous, replies, silent, runs, isN, wakes, readies, doesIn, does, countsIn, counts}
+use Rattle.rules.specs.Lens.{Given, measurement, measured, withGiven, Good, longestReply}
 use Rattle.rules.proofs.Valid.{Valid, done-is, valid-told, valid-made, untouched-valid}
 use Rattle.rules.specs.Rows.{Others}
-use Rattle.rules.proofs.Readings.{untouched}
-use Rattle.rules.proofs.Rows.{rows}
+use Rattle.rules.proofs.Rows.{untouched, rows}
 use Rattle.rules.proofs.Lengths.{framed-at-most, items-told, blur-long, fixed-long, record-body}
 
 -- ---- the effects
@@ -60,17 +59,17 @@ moved-valid s p = modes-valid s _ p (p .film) (p .unit) (p .next-rate) (p .next-
 neither : {a b : Bool} → a ≡ false → b ≡ false → (a || b) ≡ false
 neither p q = λ i. p i || q i
 
--- a turned letter is as much a letter as it was, so the settings stay in range
-turned-same : (to l : ℕ) → letterOk to ≡ true → letterOk (turned to l) ≡ letterOk l
-unfolding turned letterOk
-turned-same to l h =
+-- a letter changed by X or Y is as much a letter as it was, so the settings stay in range
+relettered-same : (to l : ℕ) → letterOk to ≡ true → letterOk (relettered to l) ≡ letterOk l
+unfolding relettered letterOk
+relettered-same to l h =
     told (eqb l 66)
     (λ b. rw (eqb-true l 66 b) h)
     (λ b. told (eqb l 98) (λ c. rw (eqb-true l 98 c) h) (λ c. ap letterOk (cond-no to l (neither b c))))
 
 letter-same : (to : ℕ) (s : Settings) → letterOk to ≡ true → settingsLowest (letterNow to s) ≡ settingsLowest s
 unfolding settingsLowest fixedLowest lensLowest
-letter-same to s h = rw (turned-same to (s .fixed .letter) h)
+letter-same to s h = rw (relettered-same to (s .fixed .letter) h)
 
 unit-valid : (u to : ℕ) (s : Source) → isUnit u ≡ true → letterOk to ≡ true → Valid s → Valid (unitWith u to s)
 unit-valid u to s k h p = record {
@@ -208,5 +207,5 @@ measured-good s m g =
       ready-off = λ h. ap (λ (x : Modes). isOn (x .sending)) q ∙ g .ready-off (sym (ap (λ (x : Modes). x .state) q) ∙ h);
     }
 
-pub updated-good : (s : Source) (x : Given) → Good s → Good (updated s x)
-updated-good s (measurement m) g = measured-good s m g
+pub given-good : (s : Source) (x : Given) → Good s → Good (withGiven s x)
+given-good s (measurement m) g = measured-good s m g

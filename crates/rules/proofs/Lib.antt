@@ -1,5 +1,4 @@
 pub mod Valid
-pub mod Readings
 pub mod Rows
 pub mod Unread
 pub mod Lengths

@@ -17,7 +17,7 @@ use Rattle.state.specs.declared.State.{State}
 use Rattle.state.specs.declared.State.the-variants.{Ready, Running}
 use Rattle.rules.specs.Does.{replies, silent, recordIs, recordMessage, runs, isN, readies, doesIn, does, countsIn, counts}
 use Rattle.rules.specs.Unread.{lettered, Unread}
-use Rattle.rules.proofs.Readings.{not-n}
+use Rattle.rules.proofs.Rows.{not-n}
 
 -- ---- the start-up letter
 

@@ -13,7 +13,7 @@ use Rattle.units.specs.Units.{isUnit}
 use Rattle.units.specs.Measurement.{measurementVerdict}
 use Rattle.state.specs.declared.Source.{Source}
 use Rattle.state.specs.State.{validModes, validSource}
-use Rattle.rules.specs.Readings.{Untouched}
+use Rattle.rules.specs.Rows.{Untouched}
 
 pub record Valid (s : Source) : Type 0 where
   pub settings : settingsLowest (s .settings) ≡ 0

@@ -59,8 +59,8 @@ abbrev pub rateMoved : Modes → Modes
 rateMoved m = record { state = m .state; sending = m .sending; checksum = m .checksum; inhibit = m .inhibit; film = m .film; unit = m .unit; rate = m .«next_rate»; «next_rate» = m .«next_rate» }
 
 -- letter B or b becomes this one; I and M stay
-unfoldable pub turned : ℕ → ℕ → ℕ
-turned to l = cond (eqb l 66 || eqb l 98) to l
+unfoldable pub relettered : ℕ → ℕ → ℕ
+relettered to l = cond (eqb l 66 || eqb l 98) to l
 
 abbrev pub fixedWith : ℕ → Fixed → Fixed
 fixedWith l f = record {
@@ -78,7 +78,7 @@ abbrev pub letteredWith : ℕ → Settings → Settings
 letteredWith l s = record { fixed = fixedWith l (s .fixed); maker = s .maker; «type_name» = s .«type_name»; blur = s .blur }
 
 abbrev pub letterNow : ℕ → Settings → Settings
-letterNow to s = letteredWith (turned to (s .fixed .letter)) s
+letterNow to s = letteredWith (relettered to (s .fixed .letter)) s
 
 -- the display unit, and the start-up letter turned
 abbrev pub unitWith : ℕ → ℕ → Source → Source

@@ -27,8 +27,8 @@ pub data Given : Type 0 where
 unfoldable pub measured : Source → Measurement → Source
 measured s m = cond (isDone (measurementVerdict m)) (record { settings = s .settings; measurement = m; modes = s .modes }) s
 
-abbrev pub updated : Source → Given → Source
-updated s (measurement m) = measured s m
+abbrev pub withGiven : Source → Given → Source
+withGiven s (measurement m) = measured s m
 
 -- what a start sets: ready, all modes off, film 00, rate number 6, this unit
 abbrev pub startModes : ℕ → Modes
@@ -55,7 +55,7 @@ lens = record {
   replyTo = λ s l. does s l .reply;
   counts = counts;
   ended = λ s. withModes s (rateMoved (s .modes));
-  update = updated;
+  update = withGiven;
   greeting = greeting;
 }
 

@@ -1,6 +1,5 @@
 pub mod Does
 pub mod Lens
-pub mod Readings
 pub mod Rows
 pub mod Unread
 pub mod Promise

@@ -1,9 +1,11 @@
--- The table of commands by what a camera may rely on: what each row answers, byte by byte, and what it switches, nothing else. Statements only.
-use Prim.Native.Nat.{ℕ, _+_}
+-- Document 01's table of commands, as the requests amend it, by what a camera may rely on: what each row answers, byte by byte, and what it
+-- switches, nothing else; and with it the readings of the table that have gone wrong. Statements only.
+use Prim.Native.Nat.{ℕ, _+_, _≤_, _<_}
 use mathlib.Core.Bool.{Bool, true, false}
 use mathlib.Core.List.{List, [], _∷_}
-use mathlib.Core.Logic.{_≢_}
+use mathlib.Core.Logic.{_≢_, _↔_}
 use mathlib.Core.Path.{_≡_}
+use lib.IntN.{pos, negsuc}
 use lib.ListN.{getD}
 use Rattle.digits.specs.Digits.{decimal}
 use Rattle.refusal.specs.declared.Verdict.the-variants.{Done}
@@ -15,15 +17,23 @@ use Rattle.units.specs.declared.Measurement.{Measurement}
 use Rattle.line.specs.declared.Line.{Line}
 use Rattle.line.specs.Command.{commandOf}
 use Rattle.line.specs.declared.Command.{Command}
-use Rattle.line.specs.declared.Command.the-variants.{B, C, D, G, H, Ka, Kb, Kc, Kd, K3, K4, N, «V», W, X, Y, Unknown}
+use Rattle.line.specs.declared.Command.the-variants.{B, C, D, G, H, Ka, Kb, Kc, Kd, K3, K4, N, P, «V», W, X, Y, Unknown}
 use Rattle.state.specs.declared.State.{State}
 use Rattle.state.specs.declared.State.the-variants.{Ready, Running}
 use Rattle.state.specs.declared.Sending.{Sending}
 use Rattle.state.specs.declared.Sending.the-variants as sending
 use Rattle.state.specs.declared.Source.{Source}
 use Rattle.rules.specs.Does.{runs, readies, counts, recordMessage}
-use Rattle.rules.specs.Lens.{measurement, lens}
-use Rattle.rules.specs.Readings.{Untouched}
+use Rattle.rules.specs.Lens.{startModes, measurement, lens}
+
+-- what no switch touches
+pub record Untouched (s t : Source) : Type 0 where
+  pub settings : t .settings ≡ s .settings
+  pub measurement : t .measurement ≡ s .measurement
+  pub film : t .modes .film ≡ s .modes .film
+  pub unit : t .modes .unit ≡ s .modes .unit
+  pub rate : t .modes .rate ≡ s .modes .rate
+  pub next-rate : t .modes .«next_rate» ≡ s .modes .«next_rate»
 
 -- what a command may switch: continuous sending, checksum, inhibit, film, unit, the rate to come
 abbrev pub Switches : Type 0
@@ -58,8 +68,34 @@ module _ (s : Source) where
   abbrev pub circle : ℕ → List ℕ
   circle n = 0x30 ∷ 0x2E ∷ 0x30 ∷ decimal 3 (getD (s .settings .blur) n 0)
 
-  -- (G's reply and H's, P's, and what only asks: Readings)
   pub record Rows : Type 0 where
+    -- ---- the lens
+    -- a carriage return ends a line, and no other byte does
+    pub ends-at-cr : (l : Line) (b : ℕ) → (lens .ends l b ≡ true) ↔ (b ≡ 13)
+    -- a start leaves it ready, all modes off, film 00, rate number 6
+    pub start-ready : (u : ℕ) → startModes u .state ≡ Ready
+    pub start-off : (u : ℕ) → (startModes u .sending ≡ sending.Off) × ((startModes u .checksum ≡ false) × (startModes u .inhibit ≡ false))
+    pub start-film : (u : ℕ) → startModes u .film ≡ 0
+    pub start-rate : (u : ℕ) → (startModes u .rate ≡ 6) × (startModes u .«next_rate» ≡ 6)
+    -- it acts on a line and answers it by the rows of its state, of the command that the line is
+    pub ready-acts : (l : Line) → s .modes .state ≡ Ready → (lens .act s l ≡ readies s (commandOf l) .source) × (lens .replyTo s l ≡ readies s (commandOf l) .reply)
+    pub running-acts : (l : Line) → s .modes .state ≡ Running → (lens .act s l ≡ runs s (commandOf l) .source) × (lens .replyTo s l ≡ runs s (commandOf l) .reply)
+    -- the end of a message moves the rate number, and changes nothing else
+    pub ended-rate : lens .ended s .modes .rate ≡ s .modes .«next_rate»
+    pub ended-keeps : (lens .ended s .settings ≡ s .settings) × (lens .ended s .measurement ≡ s .measurement) × (lens .ended s .modes .state ≡ s .modes .state)
+    pub ended-switches : switches (lens .ended s) ≡ switches s
+    -- a new measurement takes the old one's place, where it is in range, and nothing else changes
+    pub measures : (m : Measurement) → measurementVerdict m ≡ Done →
+        lens .update s (measurement m) ≡ record { settings = s .settings; measurement = m; modes = s .modes }
+    -- ---- in ready
+    -- N answers the fixed data and moves to running, and changes nothing else; everything else answers < and does nothing
+    pub ready-n : readies s N .reply ≡ said (fixedForm .print (s .settings .fixed))
+    pub ready-wakes : readies s N .source .modes .state ≡ Running
+    pub waking-keeps : Untouched s (readies s N .source)
+    pub waking-switches : switches (readies s N .source) ≡ switches s
+    pub ready-answers : (c : Command) → c ≢ N → readies s c .reply ≡ said (0x3C ∷ [])
+    pub ready-stays : (c : Command) → c ≢ N → readies s c .source ≡ s
+    -- ---- in running: what is switched
     pub others-stay : (c : Command) → others (runs s c .source) ≡ others s
     -- "continuous text, continuous packed"; "checksum on, error inhibit on"; "continuous, checksum, inhibit off, no other change"
     pub c-switches : let m = s .modes in switches (runs s C .source) ≡ (sending.Text, m .checksum, m .inhibit, m .film, m .unit, m .«next_rate»)
@@ -73,13 +109,24 @@ module _ (s : Source) where
     pub w-switches : (n : ℕ) → let m = s .modes in switches (runs s (W n) .source) ≡ (m .sending, m .checksum, m .inhibit, n, m .unit, m .«next_rate»)
     pub x-switches : let m = s .modes in switches (runs s X .source) ≡ (m .sending, m .checksum, m .inhibit, m .film, 0x49, m .«next_rate»)
     pub y-switches : let m = s .modes in switches (runs s Y .source) ≡ (m .sending, m .checksum, m .inhibit, m .film, 0x4D, m .«next_rate»)
-    -- in ready "N answers and moves to running", and changes nothing else
-    pub waking-keeps : Untouched s (readies s N .source)
-    pub waking-switches : switches (readies s N .source) ≡ switches s
-    -- the end of a message moves the rate number, and changes nothing else
-    pub ended-rate : lens .ended s .modes .rate ≡ s .modes .«next_rate»
-    pub ended-keeps : (lens .ended s .settings ≡ s .settings) × (lens .ended s .measurement ≡ s .measurement) × (lens .ended s .modes .state ≡ s .modes .state)
-    pub ended-switches : switches (lens .ended s) ≡ switches s
+    -- the start-up letter: I and M stay, B or b becomes B by X, b by Y (no other command touches it: Unread)
+    pub i-stays : s .settings .fixed .letter ≡ 0x49 → (runs s X .source .settings .fixed .letter ≡ 0x49) × (runs s Y .source .settings .fixed .letter ≡ 0x49)
+    pub m-stays : s .settings .fixed .letter ≡ 0x4D → (runs s X .source .settings .fixed .letter ≡ 0x4D) × (runs s Y .source .settings .fixed .letter ≡ 0x4D)
+    pub b-turns : s .settings .fixed .letter ≡ 0x62 → (runs s X .source .settings .fixed .letter ≡ 0x42) × (runs s Y .source .settings .fixed .letter ≡ 0x62)
+    pub capital-b-turns : s .settings .fixed .letter ≡ 0x42 → (runs s X .source .settings .fixed .letter ≡ 0x42) × (runs s Y .source .settings .fixed .letter ≡ 0x62)
+    -- what only asks, and an unknown command, changes nothing
+    pub b-asks : runs s B .source ≡ s
+    pub d-asks : runs s D .source ≡ s
+    pub kd-asks : runs s Kd .source ≡ s
+    pub k3-asks : runs s K3 .source ≡ s
+    pub k4-asks : runs s K4 .source ≡ s
+    pub n-asks : runs s N .source ≡ s
+    pub p-asks : runs s P .source ≡ s
+    pub unknown-keeps : runs s Unknown .source ≡ s
+    -- ---- in running: what is answered
+    -- under the modes after the command, the checksum not over LF CR: G answers !MN, H plain !
+    pub g-answers : runs s G .reply ≡ 0x21 ∷ 0x4D ∷ 0x4E ∷ 0x0A ∷ 0x0D ∷ []
+    pub h-answers : runs s H .reply ≡ 0x21 ∷ 0x0A ∷ 0x0D ∷ []
     -- "B, space, version"; "`!`"; "one record"; "`Kb`n`!`"; "tag and name"; "fixed data"; "V or W, then 0.0 and three digits"; "X or Y"; "`?`"
     pub b-answers : runs s B .reply ≡ said (0x42 ∷ 0x20 ∷ s .settings .fixed .version)
     pub c-answers : runs s C .reply ≡ said (0x21 ∷ [])
@@ -96,6 +143,13 @@ module _ (s : Source) where
     pub x-answers : runs s X .reply ≡ said (0x58 ∷ [])
     pub y-answers : runs s Y .reply ≡ said (0x59 ∷ [])
     pub unknown-answers : s .modes .inhibit ≡ false → runs s Unknown .reply ≡ said (0x3F ∷ [])
+    -- inhibited, an unknown command has no reply
+    pub inhibited : s .modes .inhibit ≡ true → runs s Unknown .reply ≡ []
+    -- P and two characters: below 0 the letters FF, else two digits, above 99 those of 99; the checksum covers them
+    pub mild : (n : ℕ) → n ≤ 99 → s .measurement .temperature ≡ pos n → runs s P .reply ≡ said (0x50 ∷ decimal 2 n)
+    pub cold : (n : ℕ) → s .measurement .temperature ≡ negsuc n → runs s P .reply ≡ said (0x50 ∷ 0x46 ∷ 0x46 ∷ [])
+    pub hot : (n : ℕ) → 99 < n → s .measurement .temperature ≡ pos n → runs s P .reply ≡ said (0x50 ∷ 0x39 ∷ 0x39 ∷ [])
+    -- ---- records, and what counts
     -- the record that continuous sending starts
     pub text-record : s .modes .sending ≡ sending.Text → recordMessage s ≡ textNow
     pub packed-record : s .modes .sending ≡ sending.Packed → recordMessage s ≡ packedNow
@@ -103,6 +157,3 @@ module _ (s : Source) where
     pub uncounted : (l : Line) → s .modes .state ≡ Ready → commandOf l ≢ N → counts s l ≡ false
     pub waking-counts : (l : Line) → s .modes .state ≡ Ready → commandOf l ≡ N → counts s l ≡ true
     pub running-counts : (l : Line) → s .modes .state ≡ Running → counts s l ≡ true
-    -- a new measurement takes the old one's place, where it is in range, and nothing else changes
-    pub measures : (m : Measurement) → measurementVerdict m ≡ Done →
-        lens .update s (measurement m) ≡ record { settings = s .settings; measurement = m; modes = s .modes }

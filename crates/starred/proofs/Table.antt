@@ -7,7 +7,7 @@ use Rattle.codec.specs.Codec.{failing, first, fieldSays, passed, both, mapped, 
 use Rattle.codec.specs.Places.{fieldOf}
 use Rattle.frame.specs.Frame.{xorFrom, sumOf, ending, isEnded, sums, opening}
 use Rattle.frame.specs.Message.{found, afterwards, readOf, checked, roomFor, thenWrite, writeOf}
-use Rattle.pointed.specs.Pointed.{pointed, joined, readPointed}
+use Rattle.pointed.specs.Pointed.{pointed, withTenths, readPointed}
 use Rattle.stop.specs.Stop.{stopOk, stopText, stop, readStop, readTenth, pair, readStopText}
 use Rattle.pupil.specs.Pupil.{pupilText, pupilPacked}
 use Rattle.record.specs.Forms.{frontText, middleText, backText, frontPacked, middlePacked, backPacked, serial, textForm, packedForm}
@@ -58,7 +58,7 @@ amended = record {
 }
 
 pub old-lines : OldLines
-unfolding likeR recordR textR digits value readDigits readField fieldSays passed both chained mapped every textOk readTagged pointed joined readPointed stopText stop readStopText pupilText frontText middleText backText serial textForm oldBack oldZoom oldForm form122 byTen isEnded opening ending found afterwards readOf unless andThen added dropped forward back
+unfolding likeR recordR textR digits value readDigits readField fieldSays passed both chained mapped every textOk readTagged pointed withTenths readPointed stopText stop readStopText pupilText frontText middleText backText serial textForm oldBack oldZoom oldForm form122 byTen isEnded opening ending found afterwards readOf unless andThen added dropped forward back
 old-lines = record {
   r-at-057 = refl;
   sends-000 = refl;
@@ -92,5 +92,5 @@ unfolding likeR recordR letterOf
 session = record { measurement = refl; serial = λ letter. refl; letter = refl }
 
 pub numbered : Numbered
-unfolding likeR recordR textR failing first kindOk letterOk digits value readDigits readField fieldSays passed both chained mapped every textOk readTagged pointed joined readPointed stopOk stopText stop readStopText pupilText frontText middleText backText serial textForm fixed.serial fixed.owner fixed.lensItems fixed.version fixed.fixedForm xorFrom sumOf isEnded sums opening ending found afterwards readOf checked roomFor thenWrite writeOf unless andThen byTen dropped back
+unfolding likeR recordR textR failing first kindOk letterOk digits value readDigits readField fieldSays passed both chained mapped every textOk readTagged pointed withTenths readPointed stopOk stopText stop readStopText pupilText frontText middleText backText serial textForm fixed.serial fixed.owner fixed.lensItems fixed.version fixed.fixedForm xorFrom sumOf isEnded sums opening ending found afterwards readOf checked roomFor thenWrite writeOf unless andThen byTen dropped back
 numbered = record { one = refl; two = refl; three = refl; four = refl; five = refl; six = refl; eight = refl; eleven = refl }

@@ -21,7 +21,7 @@ use Rattle.fixed.specs.Form.{fixedForm}
 use Rattle.units.specs.Units.{conversion}
 use Rattle.archive.specs.Old.{oldZoom, oldForm, form122}
 use Rattle.archive.specs.Archive.{forward, back}
-use Rattle.packed_bytes.specs.Bytes.{recordIn}
+use Rattle.packed_bytes.specs.Bytes.{packedRecord}
 use Rattle.transfer.specs.Transfer.{turned}
 use Rattle.bench_lens.specs.Bench.{letterOf, benchSettings, benchMeasurement}
 
@@ -152,7 +152,7 @@ pub record Turns : Type 0 where
   pub plain-for-summed : turned true (packedR ++ 0x0A ∷ 0x0D ∷ []) ≡ refused (Length 41)
   pub summed-for-plain : turned false (packedR ++ 0x4D ∷ 0x48 ∷ 0x0A ∷ 0x0D ∷ []) ≡ refused (Length 43)
   -- what its bytes say
-  pub r-said : recordIn packedR ≡ recordR
+  pub r-said : packedRecord packedR ≡ recordR
 
 -- the number, and what is also returned
 abbrev pub toldWith : {A : Type 0} → Answer A → ℕ × ℕ

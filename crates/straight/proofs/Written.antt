@@ -21,7 +21,7 @@ use Rattle.pupil.specs.Pupil.{signByte, pupilText}
 use Rattle.record.specs.Forms.{Back, frontText, middleText, backText, serial, textForm, textLength, packedLength, frontOf, middleOf, backOf}
 use Rattle.record.specs.declared.Record.{Record}
 use Rattle.text_writer.proofs.Written.{record-long}
-use Rattle.packed_bytes.specs.Bytes.{pupilIn, recordIn}
+use Rattle.packed_bytes.specs.Bytes.{pupilIn, packedRecord}
 use Rattle.straight.specs.Text.{textIn}
 
 -- ---- the pupil
@@ -60,7 +60,7 @@ contents-are r = simp append-assoc
 
 -- ---- what is written of any bytes
 
-pub text-in : (s : List ℕ) → length s ≡ packedLength → textIn s ≡ textForm .print (recordIn s)
+pub text-in : (s : List ℕ) → length s ≡ packedLength → textIn s ≡ textForm .print (packedRecord s)
 unfolding textIn
 text-in s l = cond-yes _ _ (eq-eqb (length s) packedLength l)
 
@@ -73,4 +73,4 @@ none-in d s n = sym (ap (over d 0) (cond-no _ _ (ne-eqb (length s) packedLength 
 pub no-room : (d s : List ℕ) → length s ≡ packedLength → length d < textLength → d ≡ over d 0 (textIn s)
 no-room d s l h =
     let nine : length (take 9 (drop 30 s)) ≡ 9 = length-take-le 9 (drop 30 s) (omega (arith, length-drop 30 s)) in
-    sym (ap (over d 0) (text-in s l) ∙ over-short d _ 0 (omega (arith, record-long (recordIn s) nine)))
+    sym (ap (over d 0) (text-in s l) ∙ over-short d _ 0 (omega (arith, record-long (packedRecord s) nine)))

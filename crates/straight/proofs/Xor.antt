@@ -9,10 +9,10 @@ use lib.Arith.{bin-ind}
 use lib.Bits.{bitXor, xor-comm, xor-zero-r, xor-mod, xor-shr}
 use lib.ListN.{length, getD, take, drop, take-append-drop, length-drop, drop-of-length-le}
 use lib.Seq.{drop-cons, drop-drop, length-take-le}
+use Rattle.laws.specs.Lowest.{fromLowest}
 use Rattle.laws.specs.Over.{over}
 use Rattle.laws.proofs.OverLaws.{onto}
 use Rattle.frame.specs.Frame.{xorFrom, sumOf, ending}
-use Rattle.divided.specs.Bytes.{word}
 use Rattle.straight.specs.Words.{together}
 
 -- ---- the order does not matter
@@ -83,14 +83,14 @@ unfolding xorFrom
 xor-onto x [] t = refl
 xor-onto x (b ∷ s) t = xor-onto (bitXor x b) s t
 
-xor-word : (x : ℕ) (s : List ℕ) → ((i : ℕ) → getD s i 0 < 256) → xorFrom x s ≡ bitXor x (together (length s) (word s))
-unfolding xorFrom together word
+xor-word : (x : ℕ) (s : List ℕ) → ((i : ℕ) → getD s i 0 < 256) → xorFrom x s ≡ bitXor x (together (length s) (fromLowest s))
+unfolding xorFrom together fromLowest
 xor-word x [] h = sym (xor-zero-r x)
 xor-word x (d ∷ s) h =
     let low : d < 256 = h 0 in
-    let above : (d + 256 * word s) / 256 ≡ word s = omega arith in
-    let first : (d + 256 * word s) % 256 ≡ d = omega (arith, above) in
-    xor-word (bitXor x d) s (λ i. h (suc i)) ∙ xor-assoc x d (together (length s) (word s))
+    let above : (d + 256 * fromLowest s) / 256 ≡ fromLowest s = omega arith in
+    let first : (d + 256 * fromLowest s) % 256 ≡ d = omega (arith, above) in
+    xor-word (bitXor x d) s (λ i. h (suc i)) ∙ xor-assoc x d (together (length s) (fromLowest s))
     ∙ ap (bitXor x) (ap₂ bitXor (sym first) (ap (together (length s)) (sym above)))
 
 -- ---- words one after the other
@@ -100,7 +100,7 @@ unfolding together
 xor-begun s = refl
 
 pub xor-on : (x i : ℕ) (s : List ℕ) → 8 * i + 8 ≤ length s → ((j : ℕ) → getD (take 8 (drop (8 * i) s)) j 0 < 256) →
-    xorFrom (together 8 x) (drop (8 * i) s) ≡ xorFrom (together 8 (bitXor x (word (take 8 (drop (8 * i) s))))) (drop (8 * (i + 1)) s)
+    xorFrom (together 8 x) (drop (8 * i) s) ≡ xorFrom (together 8 (bitXor x (fromLowest (take 8 (drop (8 * i) s))))) (drop (8 * (i + 1)) s)
 xor-on x i s h low =
     let r = drop (8 * i) s in
     let t = take 8 r in
@@ -109,7 +109,7 @@ xor-on x i s h low =
     ap (xorFrom (together 8 x)) (sym (take-append-drop 8 r) ∙ ap (λ (u : List ℕ). t ++ u) (drop-drop 8 (8 * i) s ∙ ap (λ (k : ℕ). drop k s) next))
     ∙ xor-onto (together 8 x) t (drop (8 * (i + 1)) s)
     ∙ ap (λ (y : ℕ). xorFrom y (drop (8 * (i + 1)) s))
-    (xor-word (together 8 x) t low ∙ ap (λ (k : ℕ). bitXor (together 8 x) (together k (word t))) long ∙ sym (together-xor 8 x (word t)))
+    (xor-word (together 8 x) t low ∙ ap (λ (k : ℕ). bitXor (together 8 x) (together k (fromLowest t))) long ∙ sym (together-xor 8 x (fromLowest t)))
 
 pub xor-end : (x k : ℕ) (s : List ℕ) → length s ≤ k → xorFrom x (drop k s) ≡ x
 unfolding xorFrom
@@ -117,8 +117,8 @@ xor-end x k s h = rw (drop-of-length-le s h)
 
 -- the bytes of a word, one by one
 pub eight-in : (s : List ℕ) → length s ≡ 8 →
-    getD s 0 0 + 256 * (getD s 1 0 + 256 * (getD s 2 0 + 256 * getD s 3 0)) + 4294967296 * (getD s 4 0 + 256 * (getD s 5 0 + 256 * (getD s 6 0 + 256 * getD s 7 0))) ≡ word s
-unfolding word
+    getD s 0 0 + 256 * (getD s 1 0 + 256 * (getD s 2 0 + 256 * getD s 3 0)) + 4294967296 * (getD s 4 0 + 256 * (getD s 5 0 + 256 * (getD s 6 0 + 256 * getD s 7 0))) ≡ fromLowest s
+unfolding fromLowest
 eight-in (a ∷ b ∷ c ∷ d ∷ e ∷ f ∷ g ∷ h ∷ []) l = omega arith
 eight-in [] l = absurd (omega arith)
 eight-in (a ∷ []) l = absurd (omega arith)

@@ -5,13 +5,13 @@ ghost use mathlib.Core.List.{_∷_};
 ghost use mathlib.Core.Path.{_≡_};
 ghost use Prim.Native.Nat.{_+_, _*_, _≤_};
 ghost use lib.ListN.{length};
+ghost use Rattle.laws.specs.Lowest.{fromLowest};
 ghost use Rattle.laws.specs.Over.{over};
 ghost use Rattle.digits.specs.Digits.{decimal};
-ghost use Rattle.divided.specs.Bytes.{word};
 ghost use Rattle.stop.specs.Stop.{stopText};
 ghost use Rattle.frame.specs.Frame.{xorFrom, endingWidth};
 ghost use Rattle.record.specs.Forms.{frontText, middleText, backText, textForm, textLength, packedLength};
-ghost use Rattle.packed_bytes.specs.Bytes.{sixes, frontIn, middleIn, backIn, recordIn};
+ghost use Rattle.packed_bytes.specs.Bytes.{sixes, frontIn, middleIn, backIn, packedRecord};
 ghost use Rattle.straight.specs.Words.{together};
 ghost use Rattle.straight.specs.Contracts.{PutContents, EndText};
 
@@ -94,7 +94,7 @@ fn put_back(out: &mut [u8], s: &[u8])
 // Writes them all.
 fn put_record(out: &mut [u8], s: &[u8])
     requires { ⌜ (textLength ≤ length (now out)) × (length (now s) ≡ packedLength) ⌝ }
-    ensures { λ _. ⌜ now (out .exit) ≡ over (now (out .entry)) 0 (textForm .print (recordIn (now (s .entry)))) ⌝ }
+    ensures { λ _. ⌜ now (out .exit) ≡ over (now (out .entry)) 0 (textForm .print (packedRecord (now (s .entry)))) ⌝ }
 {
     put_front(out, &s[0..9]);
     put_middle(out, &s[9..23]);
@@ -121,7 +121,7 @@ pub fn put_contents(out: &mut [u8], s: &[u8])
 // Eight bytes as one word.
 fn word_in(s: &[u8]) -> u64
     requires { ⌜ length (now s) ≡ 8 ⌝ }
-    ensures { λ r. ⌜ r ≡ word (now (s .entry)) ⌝ }
+    ensures { λ r. ⌜ r ≡ fromLowest (now (s .entry)) ⌝ }
 {
     let low = packed_bytes::quad(s[0], s[1], s[2], s[3]);
     let high = packed_bytes::quad(s[4], s[5], s[6], s[7]);

@@ -28,7 +28,7 @@ use Rattle.record.specs.declared.Record.{Record}
 use Rattle.record.specs.declared.RecordRead.{RecordRead}
 use Rattle.text_writer.specs.Contracts.{WriteText}
 use Rattle.packed_reader.specs.Contracts.{ReadPacked}
-use Rattle.packed_bytes.specs.Bytes.{recordIn}
+use Rattle.packed_bytes.specs.Bytes.{packedRecord}
 use Rattle.transfer.specs.Transfer.{turned, turnedLength}
 use Rattle.transfer.specs.Contracts.{ByRecord, PackedToText}
 
@@ -57,7 +57,7 @@ pub record Promised : Type 0 where
   pub record-reads-and-writes : (m : List ℕ) (checksum : Bool) (out : List ℕ) (read : RecordRead) (w : Wrote) (after : List ℕ) → ReadPacked m checksum read →
       ByRecord m checksum out w after ↔ ThenWritten read checksum out w after
   -- what the straight route takes its fields from: of a message that the reader accepts, the bytes say the record that it reads
-  pub says : (checksum : Bool) (m : List ℕ) (r : Record) → readOf packedForm checksum m ≡ accepted r → recordIn (take packedLength m) ≡ r
+  pub says : (checksum : Bool) (m : List ℕ) (r : Record) → readOf packedForm checksum m ≡ accepted r → packedRecord (take packedLength m) ≡ r
   -- "60 40 comes out +000": it is turned like 40 40,
   pub minus-turns : (checksum : Bool) (r : Record) → recordLowest r ≡ 0 → pupilOf r ≡ pos 0 →
       turned checksum (framed checksum (over (packedForm .print r) 25 minusPacked)) ≡ accepted (messageOf textForm checksum r)

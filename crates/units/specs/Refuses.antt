@@ -15,8 +15,8 @@ use Rattle.units.specs.Ranges.{measurementRanges}
 use Rattle.units.specs.declared.Measurement.{Measurement}
 
 -- I or M
-abbrev pub Letter : ℕ → Type 0
-Letter u = (u ≡ 73) ⊎ (u ≡ 77)
+abbrev pub UnitLetter : ℕ → Type 0
+UnitLetter u = (u ≡ 73) ⊎ (u ≡ 77)
 
 -- "one of the five", and the number in its unit's range: a distance, or the pupil
 abbrev pub Convertible : ℕ → ℤ → ℕ → Type 0
@@ -26,11 +26,11 @@ Convertible i z unit =
 -- "refusal 1 with 0 for a bad unit letter, else with the field asked for"
 abbrev pub ConvertWhen : ℕ → ℤ → ℕ → ℕ → Refusal → Type 0
 ConvertWhen i z unit wanted r =
-    ((Letter unit × Letter wanted → ⊥) × (r ≡ Field 0)) ⊎ ((Letter unit × Letter wanted) × ((Convertible i z unit → ⊥) × (r ≡ Field i)))
+    ((UnitLetter unit × UnitLetter wanted → ⊥) × (r ≡ Field 0)) ⊎ ((UnitLetter unit × UnitLetter wanted) × ((Convertible i z unit → ⊥) × (r ≡ Field i)))
 
 -- "lowest field; unit letter 0, temperature 13"
 abbrev pub CheckWhen : Measurement → Refusal → Type 0
-CheckWhen m r = ((Letter (m .unit) → ⊥) × (r ≡ Field 0)) ⊎ (Letter (m .unit) × ((i : ℕ) × FirstOut (measurementRanges m) i × (r ≡ Field i)))
+CheckWhen m r = ((UnitLetter (m .unit) → ⊥) × (r ≡ Field 0)) ⊎ (UnitLetter (m .unit) × ((i : ℕ) × FirstOut (measurementRanges m) i × (r ≡ Field i)))
 
 pub record UnitsRefuse : Type 0 where
   pub convert-when : (i : ℕ) (z : ℤ) (unit wanted : ℕ) (r : Refusal) → (conversion i z unit wanted ≡ refused r) ↔ ConvertWhen i z unit wanted r

@@ -8,7 +8,7 @@ use Rattle.machine.proofs.Promise.{slots-append}
 use Rattle.rules.specs.Lens.{Given, measurement, lens}
 use Rattle.walk.specs.Walk.{Sound}
 use Rattle.walk.specs.Calls.{Call, receive, slots-once, measure, fill, Held, after, bytes, ran, eventsOf, afterAll, bytesAll, eventsAll, FromStart}
-use Rattle.walk.specs.InCalls.{slotsOf, slotsRun, singly, bySlots}
+use Rattle.walk.specs.InCalls.{slotsIn, slotsRun, singly, bySlots}
 use Rattle.walk.proofs.Calls.{fill-is, reached}
 
 -- ---- calls end to end
@@ -67,7 +67,7 @@ slots-replicate : (k : ℕ) → slots {X = Given} (replicate k slot) ≡ k
 slots-replicate zero = refl
 slots-replicate (suc k) = ap suc (slots-replicate k)
 
-call-slots : (h : Held) (c : Call) → slotsOf h c ≡ slots (eventsOf h c)
+call-slots : (h : Held) (c : Call) → slotsIn h c ≡ slots (eventsOf h c)
 call-slots h (receive b) = refl
 call-slots h slots-once = refl
 call-slots h (measure m) = refl

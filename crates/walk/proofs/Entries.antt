@@ -17,7 +17,7 @@ use Rattle.fill.specs.Contracts.{Fill}
 use Rattle.fill.specs.Fill.{runOf, fillOf, fillLeaves}
 use Rattle.fill.proofs.Promises.{run-most}
 use Rattle.walk.specs.View.{bytesOf}
-use Rattle.walk.specs.Entries.{holds, Entries}
+use Rattle.walk.specs.Entries.{heldWith, Entries}
 use Rattle.walk.proofs.Calls.{reached}
 
 -- the bytes that a fill of a valid port leaves at the start of the buffer
@@ -33,9 +33,9 @@ filled p out r left v f =
 
 pub entries : Entries
 entries = record {
-  start = λ old l s m r e. ap (λ (x : Started). holds (x .port) (x .line)) e;
-  receive = λ h b r e. ap (λ (x : Received). holds (x .port) (x .line)) e;
-  slot = λ h r e. (ap (λ (x : Slotted). holds (x .port) (h .line)) e, ap (λ (x : Slotted). bytesOf (x .sent)) e);
-  measure = λ h m r e. ap (λ (x : Handed). holds (x .port) (h .line)) e;
-  fill = λ h out r left s f. (ap (λ (x : Filled). holds (x .port) (h .line)) (f .answers), filled (h .port) out r left (reached s .sound .valid) f);
+  start = λ old l s m r e. ap (λ (x : Started). heldWith (x .port) (x .line)) e;
+  receive = λ h b r e. ap (λ (x : Received). heldWith (x .port) (x .line)) e;
+  slot = λ h r e. (ap (λ (x : Slotted). heldWith (x .port) (h .line)) e, ap (λ (x : Slotted). bytesOf (x .sent)) e);
+  measure = λ h m r e. ap (λ (x : Handed). heldWith (x .port) (h .line)) e;
+  fill = λ h out r left s f. (ap (λ (x : Filled). heldWith (x .port) (h .line)) (f .answers), filled (h .port) out r left (reached s .sound .valid) f);
 }

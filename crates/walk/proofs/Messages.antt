@@ -24,7 +24,7 @@ use Rattle.port.proofs.Valid.{message-valid}
 use Rattle.walk.specs.View.{kindOf, waitsOf, view}
 use Rattle.walk.specs.Walk.{Sound}
 use Rattle.walk.specs.Calls.{Call, receive, slots-once, measure, fill, Held, viewOf, after, ran, eventsOf, afterAll, eventsAll, begun, FromStart}
-use Rattle.walk.specs.InCalls.{slotsOf, elseRecord, givenAt, ifAny, startedAt, startedOver, startedAll, WholeMessages}
+use Rattle.walk.specs.InCalls.{slotsIn, elseRecord, givenAt, ifAny, startedAt, startedOver, startedAll, WholeMessages}
 use Rattle.walk.proofs.Slot.{none-left, all-sent, owed-is}
 use Rattle.walk.proofs.Walk.{walks}
 use Rattle.walk.proofs.Calls.{reached, of-the-port}
@@ -102,7 +102,7 @@ given-starts : (x : State lens) (m : Measurement) → startedIn (shows x (given 
 unfolding onGiven
 given-starts (port s w u k l) m = refl
 
-call-starts : (h : Held) (c : Call) → FromStart h → startedOver (slotsOf h c) (h .port) ≡ started (viewOf h) (eventsOf h c)
+call-starts : (h : Held) (c : Call) → FromStart h → startedOver (slotsIn h c) (h .port) ≡ started (viewOf h) (eventsOf h c)
 unfolding startedOver
 call-starts h (receive b) f = sym (append-nil _ ∙ by-byte (λ o. startedIn o ≡ []) (viewOf h) b refl (λ c. refl) refl)
 call-starts h slots-once f = slots-start 1 (h .port) (h .line) (reached f .sound)

@@ -19,14 +19,14 @@ use Rattle.walk.specs.View.{bytesOf}
 use Rattle.walk.specs.Calls.{receive, slots-once, measure, fill, Held, after, bytes, begun, FromStart}
 
 -- what the driver holds: this port and this line
-abbrev pub holds : Port → Line → Held
-holds p l = record { port = p; line = l }
+abbrev pub heldWith : Port → Line → Held
+heldWith p l = record { port = p; line = l }
 
 pub record Entries : Type 0 where
-  pub start : (old : Port) (l : Line) (s : Settings) (m : Measurement) (r : Started) → PortStart old l s m r → holds (r .port) (r .line) ≡ begun old l s m
-  pub receive : (h : Held) (b : ℕ) (r : Received) → PortReceive (h .port) (h .line) b r → holds (r .port) (r .line) ≡ after h (receive b)
-  pub slot : (h : Held) (r : Slotted) → PortSlot (h .port) r → (holds (r .port) (h .line) ≡ after h slots-once) × (bytesOf (r .sent) ≡ bytes h slots-once)
-  pub measure : (h : Held) (m : Measurement) (r : Handed) → PortMeasure (h .port) m r → holds (r .port) (h .line) ≡ after h (measure m)
+  pub start : (old : Port) (l : Line) (s : Settings) (m : Measurement) (r : Started) → PortStart old l s m r → heldWith (r .port) (r .line) ≡ begun old l s m
+  pub receive : (h : Held) (b : ℕ) (r : Received) → PortReceive (h .port) (h .line) b r → heldWith (r .port) (r .line) ≡ after h (receive b)
+  pub slot : (h : Held) (r : Slotted) → PortSlot (h .port) r → (heldWith (r .port) (h .line) ≡ after h slots-once) × (bytesOf (r .sent) ≡ bytes h slots-once)
+  pub measure : (h : Held) (m : Measurement) (r : Handed) → PortMeasure (h .port) m r → heldWith (r .port) (h .line) ≡ after h (measure m)
   -- a fill's bytes stand at the start of the buffer, as many as it counts
   pub fill : (h : Held) (out : List ℕ) (r : Filled) (left : List ℕ) → FromStart h → Fill (h .port) out r left →
-      (holds (r .port) (h .line) ≡ after h (fill (length out))) × (take (r .count) left ≡ bytes h (fill (length out)))
+      (heldWith (r .port) (h .line) ≡ after h (fill (length out))) × (take (r .count) left ≡ bytes h (fill (length out)))

@@ -7,8 +7,9 @@ use mathlib.Core.Logic.{_≢_}
 use mathlib.Core.Path.{_≡_}
 use lib.Dec.{ltb}
 use lib.ListN.{replicate}
+use Rattle.laws.specs.Flat.{flat}
 use Rattle.refusal.specs.Answer.{isDone}
-use Rattle.machine.specs.Machine.{listed, joined}
+use Rattle.machine.specs.Machine.{listed}
 use Rattle.refusal.specs.declared.Verdict.the-variants.{Done}
 use Rattle.fixed.specs.declared.Settings.{Settings}
 use Rattle.units.specs.declared.Measurement.{Measurement}
@@ -25,15 +26,15 @@ use Rattle.walk.specs.View.{waitsOf, holding, leftOf}
 use Rattle.walk.specs.Calls.{Call, receive, slots-once, measure, fill, Held, after, ran, afterAll, bytesAll, begun, FromStart}
 
 -- the slots that a call runs, and those of a list of calls
-abbrev pub slotsOf : Held → Call → ℕ
-slotsOf h (receive b) = 0
-slotsOf h slots-once = 1
-slotsOf h (measure m) = 0
-slotsOf h (fill n) = ran n (h .port)
+abbrev pub slotsIn : Held → Call → ℕ
+slotsIn h (receive b) = 0
+slotsIn h slots-once = 1
+slotsIn h (measure m) = 0
+slotsIn h (fill n) = ran n (h .port)
 
 unfoldable pub slotsRun : Held → List Call → ℕ
 slotsRun h [] = 0
-slotsRun h (c ∷ cs) = slotsOf h c + slotsRun (after h c) cs
+slotsRun h (c ∷ cs) = slotsIn h c + slotsRun (after h c) cs
 
 -- the same calls slot by slot: a fill as the slots it runs, every other call as it is
 abbrev pub singly : Held → Call → List Call
@@ -134,7 +135,7 @@ startedOver (suc k) p = startedAt p ++ startedOver k (slotOf p .port)
 
 unfoldable pub startedAll : Held → List Call → List (List ℕ)
 startedAll h [] = []
-startedAll h (c ∷ cs) = startedOver (slotsOf h c) (h .port) ++ startedAll (after h c) cs
+startedAll h (c ∷ cs) = startedOver (slotsIn h c) (h .port) ++ startedAll (after h c) cs
 
 -- Of the messages, the greeting and those that the calls from a start h start, all but the last are whole: the bytes of the calls are theirs, end to end,
 -- and then `done`, as much as has left of the last one.
@@ -142,7 +143,7 @@ pub record WholeMessages (h : Held) (calls : List Call) : Type 0 where
   pub whole : List (List ℕ)
   pub done : List ℕ
   pub messages : greeting ∷ startedAll h calls ≡ whole ++ (done ++ leftOf (afterAll h calls .port .message)) ∷ []
-  pub bytes : bytesAll h calls ≡ joined whole ++ done
+  pub bytes : bytesAll h calls ≡ flat whole ++ done
 
 pub record InCalls (act-by reply-by record-by : ℕ) : Type 0 where
   -- slot by slot, the calls leave the same port and line, hand out the same bytes and run the same slots

@@ -11,7 +11,7 @@ use lib.Dec.{eqb}
 use Rattle.laws.proofs.Tests.{yes, no, and-fails, and-fails-by, and-both}
 use Rattle.units.specs.declared.Measurement.{Measurement}
 use Rattle.capture.specs.Words.{word, sole}
-use Rattle.capture.specs.Numbers.{valueOf}
+use Rattle.capture.specs.Numbers.{wordValue}
 use Rattle.capture.specs.Capture.{receivedOf, slotsOf, isMeasurement, measurementAt, eventOf}
 use Rattle.capture.specs.declared.Event.{Event}
 use Rattle.capture.specs.declared.Event.the-variants.{Measured, Other}
@@ -36,16 +36,16 @@ seen c =
     ap₂ (λ (kind n : ℕ). by kind n s) (sym (k .sole-byte .ensures ∙ ap sole (k .before .word .ensures))) (sym (c .space-count .ensures))
 
 -- the measurement that was put together
-measured : (c : tie.After-value-of) →
+measured : (c : tie.After-word-value) →
     _≡_ {A = Measurement} record {
       unit = c .before .before .before .sole-byte2 .result;
       figures = c .before .before .figures-at .result;
-      temperature = toZ w32 (ofZ w32 (c .value-of .result));
+      temperature = toZ w32 (ofZ w32 (c .word-value .result));
     } (measurementAt (c .before .before .before .before .before .before .before .before .before .before .before .before .before .before .args .line .now))
 unfolding measurementAt
 measured c =
-    let z : toZ w32 (ofZ w32 (c .value-of .result)) ≡ c .value-of .result = toZ-ofZ (search needs) in
-    let t = z ∙ c .value-of .ensures ∙ ap valueOf (c .before .word5 .ensures) in
+    let z : toZ w32 (ofZ w32 (c .word-value .result)) ≡ c .word-value .result = toZ-ofZ (search needs) in
+    let t = z ∙ c .word-value .ensures ∙ ap wordValue (c .before .word5 .ensures) in
     let k = c .before .before .before in
     let u = k .sole-byte2 .ensures ∙ ap sole (k .before .word4 .ensures) in
     cc
@@ -111,8 +111,8 @@ figures-at-requires c κs = search needs
 word-requires-5 : tie.Need-word-requires-5
 word-requires-5 c κs = search needs
 
-value-of-requires : tie.Need-value-of-requires
-value-of-requires c κs = search needs
+word-value-requires : tie.Need-word-value-requires
+word-value-requires c κs = search needs
 
 returns-5 : tie.Need-returns-5
 returns-5 c =
@@ -145,5 +145,5 @@ event-of-spec =
     sole-byte-requires-2
     figures-at-requires
     word-requires-5
-    value-of-requires
+    word-value-requires
     returns-5)

@@ -3,7 +3,7 @@ use mathlib.Core.Path.{_≡_, ap, _∙_}
 use mir.Syntax.{w32}
 use mir.Val.{toZ, ofZ}
 use mir.Facts.{toZ-ofZ}
-use Rattle.capture.specs.Numbers.{valueOf}
+use Rattle.capture.specs.Numbers.{wordValue}
 use Rattle.capture.specs.Capture.{figuresAt}
 use borrow.Author.Needs.{needs}
 use Rattle.capture.proofs.figures_at.Statement.{statement}
@@ -39,8 +39,8 @@ field-at-requires-9 c κs = search needs
 word-requires : tie.Need-word-requires
 word-requires c κs = search needs
 
-value-of-requires : tie.Need-value-of-requires
-value-of-requires c κs = search needs
+word-value-requires : tie.Need-word-value-requires
+word-value-requires c κs = search needs
 
 field-at-requires-10 : tie.Need-field-at-requires-10
 field-at-requires-10 c κs = search needs
@@ -49,8 +49,8 @@ returns : tie.Need-returns
 unfolding figuresAt
 returns c =
     let v = c .before in
-    let z : toZ w32 (ofZ w32 (v .value-of .result)) ≡ v .value-of .result = toZ-ofZ (search needs) in
-    let e = z ∙ v .value-of .ensures ∙ ap valueOf (v .before .word .ensures) in
+    let z : toZ w32 (ofZ w32 (v .word-value .result)) ≡ v .word-value .result = toZ-ofZ (search needs) in
+    let e = z ∙ v .word-value .ensures ∙ ap wordValue (v .before .word .ensures) in
     let f9 = v .before .before in
     let f8 = f9 .before in
     let f7 = f8 .before in
@@ -87,6 +87,6 @@ figures-at-spec =
     field-at-requires-8
     field-at-requires-9
     word-requires
-    value-of-requires
+    word-value-requires
     field-at-requires-10
     returns)

@@ -4,18 +4,18 @@ use native.Mathlib.Omega.{arith}
 use Rattle.laws.proofs.Range.{inside, below, above}
 use Rattle.laws.proofs.Tests.{at}
 use Rattle.digits.specs.declared.Field.the-variants as field
-use Rattle.capture.specs.Numbers.{numberOf}
+use Rattle.capture.specs.Numbers.{digitsOf}
 use Rattle.capture.specs.Capture.{slotsBy}
 use borrow.Author.Needs.{needs}
 use Rattle.capture.proofs.slots_of.Statement.{statement}
 use Rattle.capture.proofs.slots_of.Tie as tie
 
 -- the word is this number
-is : (c : tie.After-n) → numberOf (c .before .before .before .before .args .word .now) ≡ field.Value (c .n .given .0 .0)
-is c = sym (c .before .before .number-of .ensures) ∙ c .n .given .1
+is : (c : tie.After-n) → digitsOf (c .before .before .before .before .args .word .now) ≡ field.Value (c .n .given .0 .0)
+is c = sym (c .before .before .digits-of .ensures) ∙ c .n .given .1
 
-number-of-requires : tie.Need-number-of-requires
-number-of-requires c κs = search needs
+digits-of-requires : tie.Need-digits-of-requires
+digits-of-requires c κs = search needs
 
 enum-known-n : tie.Need-enum-known-n
 enum-known-n c = search needs
@@ -25,7 +25,7 @@ enum-told c = search needs
 
 returns : tie.Need-returns
 unfolding slotsBy
-returns c = ap slotsBy (sym (c .enum-told .given .1) ∙ c .before .before .number-of .ensures)
+returns c = ap slotsBy (sym (c .enum-told .given .1) ∙ c .before .before .digits-of .ensures)
 
 returns-2 : tie.Need-returns-2
 unfolding slotsBy
@@ -48,4 +48,4 @@ returns-4 c =
 pub slots-of-spec : {M : Type 1} → statement M
 slots-of-spec =
     tie.close
-    (tie.spec number-of-requires enum-known-n enum-told returns returns-2 returns-3 returns-4)
+    (tie.spec digits-of-requires enum-known-n enum-told returns returns-2 returns-3 returns-4)

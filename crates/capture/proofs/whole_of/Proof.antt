@@ -6,7 +6,7 @@ use mathlib.Core.Path.{sym, ap, _∙_}
 use native.Mathlib.Omega.{arith}
 use lib.ListN.{length}
 use Rattle.laws.proofs.ListLaws.{last-part}
-use Rattle.capture.specs.Numbers.{numberOf, signedBy}
+use Rattle.capture.specs.Numbers.{digitsOf, wholeBy}
 use Rattle.capture.proofs.Numbers.{whole-none, whole-minus, whole-plain}
 use borrow.Author.Needs.{needs}
 use Rattle.capture.proofs.whole_of.Statement.{statement}
@@ -34,7 +34,7 @@ returns-2 : tie.Need-returns-2
 returns-2 c =
     let w = c .before .before .before .before .before .before .args .word .now in
     c .signed-number .ensures
-    ∙ ap (λ (x : List ℕ). signedBy true (numberOf x)) (last-part 1 (length w - 1) w (omega arith))
+    ∙ ap (λ (x : List ℕ). wholeBy true (digitsOf x)) (last-part 1 (length w - 1) w (omega arith))
     ∙ sym (whole-minus w (c .before .before .if2 .taken))
 
 signed-number-requires-2 : tie.Need-signed-number-requires-2

@@ -1,7 +1,7 @@
 -- `divided::eight` meets its contract: the law of each line, and the bytes of the word are the digits. Assumes nothing.
 use mathlib.Core.Path.{ap, _∙_}
 use native.Mathlib.Omega.{arith}
-use Rattle.divided.specs.Bytes.{bytes}
+use Rattle.laws.specs.Lowest.{lowestFirst}
 use Rattle.divided.proofs.Words.{two-hundreds, four-lanes, four-tens, lanes-fit, digits-fit, eight-word, bytes-word}
 use borrow.Author.Needs.{needs}
 use Rattle.divided.proofs.eight.Statement.{statement}
@@ -44,7 +44,7 @@ add-result : tie.Need-add-result
 add-result c = omega (arith, digits-fit (c .args .n) (c .pre))
 
 returns : tie.Need-returns
-returns c = ap (bytes 8) (eight-word (c .args .n) (c .pre)) ∙ bytes-word 8 (c .args .n)
+returns c = ap (lowestFirst 8) (eight-word (c .args .n) (c .pre)) ∙ bytes-word 8 (c .args .n)
 
 pub eight-spec : {M : Type 1} → statement M
 eight-spec =

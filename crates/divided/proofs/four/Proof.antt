@@ -1,7 +1,7 @@
 -- `divided::four` meets its contract: the law of each line, and the bytes of the word are the digits. Assumes nothing.
 use mathlib.Core.Path.{ap, _∙_}
 use native.Mathlib.Omega.{arith}
-use Rattle.divided.specs.Bytes.{bytes}
+use Rattle.laws.specs.Lowest.{lowestFirst}
 use Rattle.divided.proofs.Words.{two-tens, four-word, bytes-word}
 use borrow.Author.Needs.{needs}
 use Rattle.divided.proofs.four.Statement.{statement}
@@ -32,7 +32,7 @@ add-result : tie.Need-add-result
 add-result c = search needs
 
 returns : tie.Need-returns
-returns c = ap (bytes 4) (four-word (c .args .n) (c .pre)) ∙ bytes-word 4 (c .args .n)
+returns c = ap (lowestFirst 4) (four-word (c .args .n) (c .pre)) ∙ bytes-word 4 (c .args .n)
 
 pub four-spec : {M : Type 1} → statement M
 four-spec =

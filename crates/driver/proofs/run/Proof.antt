@@ -15,8 +15,8 @@ loop-holds c = search needs
 returns : tie.Need-returns Inv-loop μ-loop
 returns c = search needs
 
-turned-requires : tie.Need-turned-requires Inv-loop μ-loop
-turned-requires c κs = search needs
+take-turn-requires : tie.Need-take-turn-requires Inv-loop μ-loop
+take-turn-requires c κs = search needs
 
 sub-turns : tie.Need-sub-turns Inv-loop μ-loop
 sub-turns c = search needs
@@ -38,7 +38,7 @@ run-spec =
     μ-loop
     loop-holds
     returns
-    turned-requires
+    take-turn-requires
     sub-turns
     loop-less
     loop-again

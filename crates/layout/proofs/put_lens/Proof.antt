@@ -1,8 +1,9 @@
 -- `layout::put_lens` meets its contract: five writes, each on from where the one before ended. Assumes nothing.
 use mathlib.Core.Path.{refl}
 use native.Mathlib.Omega.{arith}
+use Rattle.laws.specs.Lowest.{lowestFirst}
 use Rattle.laws.proofs.OverLaws.{last, next, run}
-use Rattle.layout.specs.Layout.{lowestFirst, lensBytes}
+use Rattle.layout.specs.Layout.{lensBytes}
 use borrow.Author.Needs.{needs}
 use Rattle.layout.proofs.put_lens.Statement.{statement}
 use Rattle.layout.proofs.put_lens.Tie as tie

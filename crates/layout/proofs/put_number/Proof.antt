@@ -7,9 +7,9 @@ use native.Mathlib.Omega.{arith}
 use borrow.Author.Needs.{needs}
 use borrow.Author.Tests.{leb-true, leb-false, not-true, not-false}
 use lib.ListN.{length, set, length-set}
+use Rattle.laws.specs.Lowest.{lowestFirst}
 use Rattle.laws.specs.Over.{over}
 use Rattle.laws.proofs.OverLaws.{over-short, over-none, over-byte}
-use Rattle.layout.specs.Layout.{lowestFirst}
 use Rattle.layout.proofs.Laws.{number-long}
 use Rattle.layout.proofs.put_number.Statement.{statement}
 use Rattle.layout.proofs.put_number.Tie as tie

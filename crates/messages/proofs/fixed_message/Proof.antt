@@ -13,11 +13,11 @@ use Rattle.messages.proofs.fixed_message.Tie as tie
 lengths : (b : tie.Start) → Long (b .args .fixed .serial) (b .args .fixed .owner) (b .args .fixed .version)
 lengths b = record { nine = search needs; thirty-one = search needs; four = search needs }
 
-slice-aggregate-put-fixed : tie.Need-slice-aggregate-put-fixed
-slice-aggregate-put-fixed c = search needs
+slice-aggregate-put-fixed-data : tie.Need-slice-aggregate-put-fixed-data
+slice-aggregate-put-fixed-data c = search needs
 
-put-fixed-requires : tie.Need-put-fixed-requires
-put-fixed-requires c κs = search needs
+put-fixed-data-requires : tie.Need-put-fixed-data-requires
+put-fixed-data-requires c κs = search needs
 
 closed-requires : tie.Need-closed-requires
 closed-requires c κs = search needs
@@ -27,8 +27,8 @@ unfolding zeros
 returns c =
     let s = c .before .before .before .before in
     let f = s .args .fixed in
-    closed-is (fixedForm .print f) fixedLength (printed-long f (lengths s)) (omega arith) (s .args .checksum) (c .closed .ensures) (c .before .before .put-fixed .ensures)
+    closed-is (fixedForm .print f) fixedLength (printed-long f (lengths s)) (omega arith) (s .args .checksum) (c .closed .ensures) (c .before .before .put-fixed-data .ensures)
 
 pub fixed-message-spec : {M : Type 1} → statement M
 fixed-message-spec =
-    tie.close (tie.spec slice-aggregate-put-fixed put-fixed-requires closed-requires returns)
+    tie.close (tie.spec slice-aggregate-put-fixed-data put-fixed-data-requires closed-requires returns)

@@ -35,8 +35,8 @@ returns-2 c =
     let r = c .before .before in
     writes-short fixedForm Setting _ _ _ (sendable (r .before)) fixedLength fixed-form-width (fixed-form-exact .long _) (r .room-for .ensures) _ (c .enum-told .given .1)
 
-put-fixed-requires : tie.Need-put-fixed-requires
-put-fixed-requires c κs = search needs
+put-fixed-data-requires : tie.Need-put-fixed-data-requires
+put-fixed-data-requires c κs = search needs
 
 put-ending-requires : tie.Need-put-ending-requires
 put-ending-requires c κs = search needs
@@ -51,7 +51,7 @@ returns-3 c =
     let n = p .before .before .before in
     let r = n .before .before in
     writes-done fixedForm Setting _ _ _ (sendable (r .before)) fixedLength fixed-form-width (fixed-form-exact .long _) (sym (n .answer .given .1) ∙ r .room-for .ensures) _ refl
-    (p .put-fixed .ensures) (e .put-ending .ensures)
+    (p .put-fixed-data .ensures) (e .put-ending .ensures)
 
 pub write-fixed-spec : {M : Type 1} → statement M
 write-fixed-spec =
@@ -64,7 +64,7 @@ write-fixed-spec =
     enum-known-answer
     enum-told
     returns-2
-    put-fixed-requires
+    put-fixed-data-requires
     put-ending-requires
     same-length
     returns-3)

@@ -8,7 +8,7 @@ use Rattle.frame.proofs.Answers.{reads-refused, reads-on}
 use Rattle.frame.proofs.Exactly.{opens}
 use Rattle.record.specs.Forms.{packedForm, packedLength}
 use Rattle.record.proofs.Exact.{packed-form-width}
-use Rattle.packed_bytes.proofs.Right.{holds-found}
+use Rattle.packed_bytes.proofs.Right.{got-found}
 use borrow.Author.Needs.{needs}
 use Rattle.packed_bytes.proofs.is_right.Statement.{statement}
 use Rattle.packed_bytes.proofs.is_right.Tie as tie
@@ -45,7 +45,7 @@ returns c =
 returns-2 : tie.Need-returns-2
 returns-2 c =
     let t = c .before .before in
-    c .is-record .ensures ∙ sym (ap isAccepted (reads-on packedForm packedLength packed-form-width _ _ (opened t)) ∙ holds-found _)
+    c .is-record .ensures ∙ sym (ap isAccepted (reads-on packedForm packedLength packed-form-width _ _ (opened t)) ∙ got-found _)
 
 pub is-right-spec : {M : Type 1} → statement M
 is-right-spec =

@@ -16,7 +16,7 @@ use Rattle.digits.specs.declared.Field.the-variants.{Value, Wrong}
 use Rattle.digits.proofs.Laws.{digits-read}
 use Rattle.codec.specs.Codec.{readTagged}
 use Rattle.codec.proofs.Fields.{tagged-low}
-use Rattle.pointed.specs.Pointed.{point, joined, readPointed}
+use Rattle.pointed.specs.Pointed.{point, withTenths, readPointed}
 use Rattle.pointed.proofs.read_pointed.Statement.{statement}
 use Rattle.pointed.proofs.read_pointed.Tie as tie
 
@@ -25,16 +25,16 @@ decimal-low : (top n : ℕ) (s : List ℕ) → readDecimal top s ≡ Value n →
 decimal-low top n s e = digits-read 10 48 (omega arith) s n top e .0
 
 -- a whole part past top / 10 is wrong with any tenth
-past : (top v : ℕ) (t : Bool) (g : Field) → top / 10 < v → joined top (only t v) g ≡ Wrong
-unfolding joined
+past : (top v : ℕ) (t : Bool) (g : Field) → top / 10 < v → withTenths top (only t v) g ≡ Wrong
+unfolding withTenths
 past top v true (Value b) h = cond-no _ _ (lt-leb (v * 10 + b) top (omega arith))
 past top v true Wrong h = refl
 past top v false g h = refl
 
 -- so what is read up to top joins as what is read up to top / 10
 to-top : (top v : ℕ) (short all : Bool) (g : Field) →
-    joined top (cond short (only (all && leb v top) v) Wrong) g ≡ joined top (cond short (only (all && leb v (top / 10)) v) Wrong) g
-unfolding joined
+    withTenths top (cond short (only (all && leb v top) v) Wrong) g ≡ withTenths top (cond short (only (all && leb v (top / 10)) v) Wrong) g
+unfolding withTenths
 to-top top v true true g =
     told (leb v (top / 10))
     (λ y. rw (y, le-leb v top (omega (arith, leb-true v (top / 10) y))))
@@ -42,7 +42,7 @@ to-top top v true true g =
 to-top top v true false g = refl
 to-top top v false all g = refl
 
-whole-to-top : (top : ℕ) (s : List ℕ) (g : Field) → joined top (readDecimal top s) g ≡ joined top (readDecimal (top / 10) s) g
+whole-to-top : (top : ℕ) (s : List ℕ) (g : Field) → withTenths top (readDecimal top s) g ≡ withTenths top (readDecimal (top / 10) s) g
 unfolding readField readDigits
 whole-to-top top s g = to-top top (value 10 48 s) (leb (length s) widest) (areDigits 10 48 s) g
 
@@ -54,8 +54,8 @@ module _ (top : ℕ) (s : List ℕ) where
   abbrev rest : List ℕ
   rest = take (length s - (length s - 2)) (drop (length s - 2) s)
 
-  -- what the two parts said, joined
-  joins : {f g : Field} → 2 ≤ length s → whole ≡ f → readTagged point (readDecimal 9) rest ≡ g → joined top f g ≡ readPointed top s
+  -- what the two parts said, as one
+  joins : {f g : Field} → 2 ≤ length s → whole ≡ f → readTagged point (readDecimal 9) rest ≡ g → withTenths top f g ≡ readPointed top s
   unfolding readPointed
   joins h e f =
       let all : rest ≡ drop (length s - 2) s = take-all (length s - (length s - 2)) (drop (length s - 2) s) (simp length-drop (omega arith)) in
@@ -81,7 +81,7 @@ enum-told : tie.Need-enum-told
 enum-told c = search needs
 
 returns-2 : tie.Need-returns-2
-unfolding joined
+unfolding withTenths
 returns-2 c =
     let w = c .before .before in
     joins _ _ (w .before .before .if1 .left) (sym (w .read-decimal .ensures) ∙ c .enum-told .given .1) refl
@@ -121,11 +121,11 @@ low : (c : tie.After-tenth) → (first c .whole .given .0 .0 ≤ start (first c)
 low c = (decimal-low _ _ _ (gave-whole (first c)), tagged-low _ _ _ _ (gave-tenth c))
 
 gave-both : (c : tie.After-tenth) →
-    joined (start (first c) .args .top) (Value (first c .whole .given .0 .0)) (Value (c .tenth .given .0 .0)) ≡ readPointed (start (first c) .args .top) (start (first c) .args .s .now)
+    withTenths (start (first c) .args .top) (Value (first c .whole .given .0 .0)) (Value (c .tenth .given .0 .0)) ≡ readPointed (start (first c) .args .top) (start (first c) .args .s .now)
 gave-both c = joins _ _ (first c .before .before .before .before .if1 .left) (gave-whole (first c)) (gave-tenth c)
 
 returns-3 : tie.Need-returns-3
-unfolding joined
+unfolding withTenths
 returns-3 c =
     let t = c .before .before in
     let w = t .before .before .before in
@@ -138,11 +138,11 @@ add-n : tie.Need-add-n
 add-n c = omega (arith, low (c .before))
 
 returns-4 : tie.Need-returns-4
-unfolding joined
+unfolding withTenths
 returns-4 c = sym (cond-no _ _ (lt-leb _ _ (c .if2 .taken))) ∙ gave-both (c .before .before)
 
 returns-5 : tie.Need-returns-5
-unfolding joined
+unfolding withTenths
 returns-5 c = sym (cond-yes _ _ (le-leb _ _ (c .if2 .left))) ∙ gave-both (c .before .before)
 
 pub read-pointed-spec : {M : Type 1} → statement M

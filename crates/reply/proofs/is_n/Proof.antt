@@ -4,7 +4,7 @@ use mathlib.Core.List.{[], _∷_}
 use types.Run.{miss}
 use Rattle.laws.proofs.Tests.{at}
 use Rattle.rules.specs.Does.{isN}
-use Rattle.rules.proofs.Readings.{not-n}
+use Rattle.rules.proofs.Rows.{not-n}
 use borrow.Author.Needs.{needs}
 use Rattle.reply.proofs.is_n.Statement.{statement}
 use Rattle.reply.proofs.is_n.Tie as tie

@@ -1,4 +1,4 @@
--- `reply::unit` meets its contract: the letter is what `turned` says. Assumes nothing.
+-- `reply::unit` meets its contract: the letter is what `relettered` says. Assumes nothing.
 use Prim.Native.Nat.{ℕ}
 use mathlib.Core.Path.{ap, _∙_}
 use mathlib.Core.List.{[], _∷_}
@@ -11,8 +11,8 @@ use Rattle.reply.proofs.unit.Statement.{statement}
 use Rattle.reply.proofs.unit.Tie as tie
 
 -- the reply by the letter after it
-abbrev turnedWith : ℕ → ℕ → Source → ℕ → Acted
-turnedWith u byte s l =
+abbrev reletteredWith : ℕ → ℕ → Source → ℕ → Acted
+reletteredWith u byte s l =
     actedOf
     (replies
     (record {
@@ -22,8 +22,8 @@ turnedWith u byte s l =
     })
     (byte ∷ []))
 
-turned-requires : tie.Need-turned-requires
-turned-requires c κs = search needs
+relettered-requires : tie.Need-relettered-requires
+relettered-requires c κs = search needs
 
 answer-requires : tie.Need-answer-requires
 answer-requires c κs = search needs
@@ -31,7 +31,7 @@ answer-requires c κs = search needs
 returns : tie.Need-returns
 returns c =
     let a = c .before .before .before .before .before .args in
-    c .answer .ensures ∙ ap (turnedWith (a .unit) (a .byte) (a .source)) (c .before .before .turned .ensures)
+    c .answer .ensures ∙ ap (reletteredWith (a .unit) (a .byte) (a .source)) (c .before .before .relettered .ensures)
 
 pub unit-spec : {M : Type 1} → statement M
-unit-spec = tie.close (tie.spec turned-requires answer-requires returns)
+unit-spec = tie.close (tie.spec relettered-requires answer-requires returns)

@@ -3,7 +3,7 @@ use mathlib.Core.Path.{_∙_}
 use borrow.Author.Needs.{needs}
 use borrow.Author.Tests.{le-leb}
 use Rattle.laws.proofs.Tests.{cond-yes}
-use Rattle.packed_bytes.specs.Bytes.{number}
+use Rattle.packed_bytes.specs.Bytes.{packedNumber}
 use Rattle.straight.proofs.number_in.Statement.{statement}
 use Rattle.straight.proofs.number_in.Tie as tie
 
@@ -11,7 +11,7 @@ number-in-requires : tie.Need-number-in-requires
 number-in-requires c κs = search needs
 
 returns : tie.Need-returns
-unfolding number
+unfolding packedNumber
 returns c = c .number-in .ensures ∙ cond-yes _ _ (le-leb _ _ (c .before .before .pre))
 
 pub number-in-spec : {M : Type 1} → statement M

@@ -8,7 +8,7 @@ use Rattle.laws.specs.Over.{over}
 use Rattle.laws.proofs.OverLaws.{last, next, run}
 use Rattle.record.proofs.Exact.{front-text-long}
 use Rattle.text_writer.proofs.Written.{middle-long}
-use Rattle.packed_bytes.specs.Bytes.{recordIn}
+use Rattle.packed_bytes.specs.Bytes.{packedRecord}
 use Rattle.straight.proofs.Written.{back-long, contents-are}
 use borrow.Author.Needs.{needs}
 use Rattle.straight.proofs.put_record.Statement.{statement}
@@ -83,7 +83,7 @@ returns c =
     (next (83 ∷ []) (w4 .put-byte .ensures) refl
     (last _ (w5 .put-text .ensures) (length-take-le 9 (drop 30 (b .args .s .now)) (simp length-drop (omega (arith, b .pre .1)))))))))
     (b .pre .0)
-    ∙ ap (over _ 0) (contents-are (recordIn (b .args .s .now)))
+    ∙ ap (over _ 0) (contents-are (packedRecord (b .args .s .now)))
 
 pub put-record-spec : {M : Type 1} → statement M
 put-record-spec =

@@ -5,8 +5,8 @@ use native.Mathlib.Omega.{arith}
 use borrow.Author.Needs.{needs}
 use lib.Bits.{bitXor}
 use lib.ListN.{take, drop}
+use Rattle.laws.specs.Lowest.{fromLowest}
 use Rattle.frame.specs.Frame.{xorFrom}
-use Rattle.divided.specs.Bytes.{word}
 use Rattle.straight.specs.Words.{together}
 use Rattle.straight.proofs.Xor.{xor-begun, xor-on, xor-end, part-low}
 use Rattle.straight.proofs.xor_words.Statement.{statement}
@@ -55,7 +55,7 @@ loop-again c =
     let b = k .before in
     let s = b .args .s .now in
     let width : 8 * l .i + 8 - 8 * l .i ≡ 8 = omega arith in
-    let part = c .word-in .ensures ∙ ap (λ (w : ℕ). word (take w (drop (8 * l .i) s))) width in (
+    let part = c .word-in .ensures ∙ ap (λ (w : ℕ). fromLowest (take w (drop (8 * l .i) s))) width in (
       omega arith,
       l .inv .1
           ∙ xor-on (l .x) (l .i) s (omega (arith, b .pre)) (λ j. part-low 8 (8 * l .i) s (λ m. omega (arith, k .shared-slice-known .given m)) j)

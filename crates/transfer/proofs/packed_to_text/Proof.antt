@@ -9,7 +9,7 @@ use Rattle.laws.specs.Over.{over}
 use Rattle.refusal.specs.Answer.{accepted}
 use Rattle.frame.specs.Message.{readOf}
 use Rattle.record.specs.Forms.{packedForm, packedLength}
-use Rattle.packed_bytes.specs.Bytes.{recordIn}
+use Rattle.packed_bytes.specs.Bytes.{packedRecord}
 use Rattle.packed_bytes.proofs.Right.{accepted-so}
 use Rattle.straight.proofs.Written.{text-in}
 use Rattle.transfer.proofs.Turned.{read-long, turned-short, turned-done}
@@ -39,7 +39,7 @@ enum-told : tie.Need-enum-told
 enum-told c = search needs
 
 -- what the message holds
-right : (c : tie.Else1) → readOf packedForm (c .before .before .before .before .args .checksum) (c .before .before .before .before .args .m .now) ≡ accepted (recordIn (take packedLength (c .before .before .before .before .args .m .now)))
+right : (c : tie.Else1) → readOf packedForm (c .before .before .before .before .args .checksum) (c .before .before .before .before .args .m .now) ≡ accepted (packedRecord (take packedLength (c .before .before .before .before .args .m .now)))
 right c = accepted-so _ _ (sym (c .before .is-right .ensures) ∙ not-false _ (c .if1 .left))
 
 enough : (c : tie.Else1) → packedLength ≤ length (c .before .before .before .before .args .m .now)

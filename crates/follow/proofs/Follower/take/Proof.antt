@@ -12,7 +12,7 @@ use Rattle.capture.proofs.Words.{before-low}
 use Rattle.printed.specs.Printed.{LF}
 use Rattle.follow.specs.Follow.{validFollower, lineIn, followedBy}
 use Rattle.follow.specs.declared.Text.{Text}
-use Rattle.follow.proofs.Laws.{valid-text, take-16, take-holds, take-line}
+use Rattle.follow.proofs.Laws.{valid-text, take-16, take-hold, take-line}
 use borrow.Author.Needs.{needs}
 use Rattle.follow.proofs.Follower.take.Statement.{statement}
 use Rattle.follow.proofs.Follower.take.Tie as tie
@@ -39,7 +39,7 @@ returns-2 c =
     let b = c .before .before .before .before in
     let a = b .before .before .before .before .before .args in
     let all = c .before .if2 .taken in
-    let g = take-holds (a .self) (a .piece .now) (a .out .now) (valid (b .before)) (sym (b .bytes-before .ensures) ∙ all) in
+    let g = take-hold (a .self) (a .piece .now) (a .out .now) (valid (b .before)) (sym (b .bytes-before .ensures) ∙ all) in
     record {
       answers = ap₂ (λ (n : ℕ) (t : Text). record { wrote = Count 0; used = n; follower = record { run = a .self .run; text = t } }) all (c .joined .ensures) ∙ g .answers;
       leaves = g .leaves;

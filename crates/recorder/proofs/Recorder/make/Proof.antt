@@ -6,7 +6,7 @@ use Rattle.record.specs.declared.Record.{Record}
 use Rattle.record.specs.declared.RecordRead.{RecordRead}
 use Rattle.fixed.specs.declared.Fixed.{Fixed}
 use Rattle.fixed.specs.declared.FixedRead.{FixedRead}
-use Rattle.recorder.specs.Recorder.{toldAs, recordIn, readingIn}
+use Rattle.recorder.specs.Recorder.{toldAs, recordEnding, readingIn}
 use Rattle.recorder.proofs.Takes.{reads-record, reads-fixed}
 use Rattle.recorder.proofs.Recorder.make.Statement.{statement}
 use Rattle.recorder.proofs.Recorder.make.Tie as tie
@@ -18,7 +18,7 @@ no-fixed-requires : tie.Need-no-fixed-requires
 no-fixed-requires c κs = search needs
 
 returns : tie.Need-returns
-unfolding readingIn recordIn toldAs
+unfolding readingIn recordEnding toldAs
 returns c =
     let m = c .before .before in
     let i = m .before in

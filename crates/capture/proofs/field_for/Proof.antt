@@ -1,11 +1,11 @@
--- `capture::field_of` meets its contract: the sign is the case of `fieldOf`. Assumes nothing.
+-- `capture::field_for` meets its contract: the sign is the case of `fieldFor`. Assumes nothing.
 use mathlib.Core.Path.{sym, ap, _∙_}
 use mir.Facts.{toZ-ofZ}
 use Rattle.sign.specs.Sign.{below0, size}
 use Rattle.capture.proofs.Numbers.{field-below, field-size}
 use borrow.Author.Needs.{needs}
-use Rattle.capture.proofs.field_of.Statement.{statement}
-use Rattle.capture.proofs.field_of.Tie as tie
+use Rattle.capture.proofs.field_for.Statement.{statement}
+use Rattle.capture.proofs.field_for.Tie as tie
 
 is-below-requires : tie.Need-is-below-requires
 is-below-requires c κs = search needs
@@ -22,5 +22,5 @@ returns-2 c =
     let e = toZ-ofZ (a .fits .n) in
     c .size-of .ensures ∙ ap size e ∙ field-size (a .args .n) (ap below0 (sym e) ∙ sym (c .before .before .is-below .ensures) ∙ c .before .if1 .left)
 
-pub field-of-spec : {M : Type 1} → statement M
-field-of-spec = tie.close (tie.spec is-below-requires returns size-of-requires returns-2)
+pub field-for-spec : {M : Type 1} → statement M
+field-for-spec = tie.close (tie.spec is-below-requires returns size-of-requires returns-2)

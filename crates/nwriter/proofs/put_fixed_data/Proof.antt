@@ -1,4 +1,4 @@
--- `nwriter::put_fixed` meets its contract: the three parts, each on from where the one before ended. Assumes nothing.
+-- `nwriter::put_fixed_data` meets its contract: the three parts, each on from where the one before ended. Assumes nothing.
 use mathlib.Core.Path.{sym, ap, _∙_}
 use native.Mathlib.Omega.{arith}
 use Rattle.laws.specs.Over.{over}
@@ -6,8 +6,8 @@ use Rattle.laws.proofs.OverLaws.{over-short, last, next, run}
 use Rattle.fixed.proofs.Given.{Long}
 use Rattle.nwriter.proofs.Printed.{printed, names-long, lens-long, version-long, printed-long}
 use borrow.Author.Needs.{needs}
-use Rattle.nwriter.proofs.put_fixed.Statement.{statement}
-use Rattle.nwriter.proofs.put_fixed.Tie as tie
+use Rattle.nwriter.proofs.put_fixed_data.Statement.{statement}
+use Rattle.nwriter.proofs.put_fixed_data.Tie as tie
 
 -- the texts have their lengths, by type
 long : (b : tie.Start) → Long (b .args .f .serial) (b .args .f .owner) (b .args .f .version)
@@ -44,8 +44,8 @@ returns-2 c =
     (e .if1 .left)
     ∙ ap (over _ 0) (printed (b .args .f))
 
-pub put-fixed-spec : {M : Type 1} → statement M
-put-fixed-spec =
+pub put-fixed-data-spec : {M : Type 1} → statement M
+put-fixed-data-spec =
     tie.close
     (tie.spec
     returns
