@@ -181,7 +181,7 @@ pub extern "C" fn heron_write_text(
         zoom,
     };
     let record = serial::record_from(figures, serial);
-    answer_to(text_writer::write_text(record, checksum, out))
+    answer_to(transfer::record_to_text(record, checksum, out))
 }
 
 // Writes a record packed.

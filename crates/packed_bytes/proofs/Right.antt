@@ -25,7 +25,7 @@ use Rattle.frame.proofs.Exactly.{opens}
 use Rattle.record.specs.Record.{topDistance}
 use Rattle.record.specs.Forms.{frontPacked, middlePacked, backPacked, packedForm, packedLength, serial, figuresOf}
 use Rattle.record.specs.declared.Record.{Record}
-use Rattle.record.proofs.Exact.{packed-form-width}
+use Rattle.record.proofs.Exact.{packed-form-exact, packed-form-width}
 use Rattle.serial.proofs.Field.{serial-read}
 use Rattle.gather.specs.Gather.{recordWith}
 use Rattle.gather.proofs.Laws.{record-parts}
@@ -163,6 +163,12 @@ pub got-found : (q : Got Record) → isAccepted (found q) ≡ isGot q
 unfolding found
 got-found (got c) = refl
 got-found (wrong i) = refl
+
+-- what is written of a record that may be sent says the record
+pub written-says : (r : Record) → packedForm .lowest r ≡ 0 → (length (packedForm .print r) ≡ packedLength) × (packedRecord (packedForm .print r) ≡ r)
+written-says r h =
+    let long = packed-form-exact .long r h ∙ packed-form-width in
+    (long, sym (whole (packedForm .print r) long refl refl refl .1 r (packed-form-exact .back r h)))
 
 -- what the reader accepts is what the bytes of the contents say
 pub says : (checksum : Bool) (m : List ℕ) (r : Record) → readOf packedForm checksum m ≡ accepted r → packedRecord (take packedLength m) ≡ r

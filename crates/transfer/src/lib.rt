@@ -2,7 +2,9 @@
 // Both routes promise the same. The straight one looks first whether the reader accepts, and asks it why only where it does not.
 use frame::Wrote;
 use record::PACKED_LENGTH;
+use record::Record;
 use record::TEXT_LENGTH;
+use refusal::Refusal;
 use refusal::Verdict;
 ghost use mathlib.Core.Bool.{false};
 ghost use mathlib.Core.List.{List};
@@ -11,7 +13,7 @@ ghost use Prim.Native.Nat.{ℕ};
 ghost use Rattle.refusal.specs.Answer.{isAccepted};
 ghost use Rattle.frame.specs.Message.{readOf};
 ghost use Rattle.record.specs.Forms.{packedForm};
-ghost use Rattle.transfer.specs.Contracts.{PackedToText, ByRecord};
+ghost use Rattle.transfer.specs.Contracts.{PackedToText, ByRecord, RecordToText};
 
 // Turns a packed message into the text message of the same record, by way of the record: 3, 4, 5 and 6 of the message, then 2.
 pub fn by_record(m: &[u8], checksum: bool, out: &mut [u8]) -> Wrote
@@ -50,6 +52,25 @@ pub fn packed_to_text(m: &[u8], checksum: bool, out: &mut [u8]) -> Wrote
         return answer;
     };
     straight::put_contents(out, &m[0..PACKED_LENGTH]);
+    straight::end_text(out, checksum);
+    Wrote::Count(n)
+}
+
+// Writes a record as text by way of its packed bytes, which is what text_writer::write_text writes digit by digit without a divider.
+pub fn record_to_text(r: Record, checksum: bool, out: &mut [u8]) -> Wrote
+    ensures { λ w. ⌜ RecordToText r checksum (now (out .entry)) w (now (out .exit)) ⌝ }
+{
+    let lowest = record::lowest_field(r);
+    if lowest != 0 {
+        return Wrote::Refused(Refusal::Field(lowest));
+    }
+    let answer = frame::room_for(out.len(), TEXT_LENGTH as u32, checksum);
+    let Wrote::Count(n) = answer else {
+        return answer;
+    };
+    let mut packed = [0u8; PACKED_LENGTH];
+    packed_writer::put_packed_record(&mut packed, r);
+    straight::put_contents(out, &packed);
     straight::end_text(out, checksum);
     Wrote::Count(n)
 }

@@ -12,8 +12,8 @@ use Rattle.hourheron.proofs.heron_write_text.Tie as tie
 record-from-requires : tie.Need-record-from-requires
 record-from-requires c κs = search needs
 
-write-text-requires : tie.Need-write-text-requires
-write-text-requires c κs = search needs
+record-to-text-requires : tie.Need-record-to-text-requires
+record-to-text-requires c κs = search needs
 
 answer-to-requires : tie.Need-answer-to-requires
 answer-to-requires c κs = search needs
@@ -28,7 +28,7 @@ returns c =
     let b = g .before .before .before in
     let a = b .args in
     let stands = stands-record textForm text-lowest _ (a .serial .now) (g .record-from .ensures) in
-    rw (toZ-ofZ (b .fits .pupil)) at (writes-given textForm Field (a .checksum) (a .out .now) stands (w .write-text .ensures) (c .answer-to .ensures))
+    rw (toZ-ofZ (b .fits .pupil)) at (writes-given textForm Field (a .checksum) (a .out .now) stands (w .record-to-text .ensures) (c .answer-to .ensures))
 
 pub heron-write-text-spec : {M : Type 1} → statement M
-heron-write-text-spec = tie.close (tie.spec record-from-requires write-text-requires answer-to-requires same-length returns)
+heron-write-text-spec = tie.close (tie.spec record-from-requires record-to-text-requires answer-to-requires same-length returns)
