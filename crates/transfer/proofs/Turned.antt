@@ -16,7 +16,7 @@ use Rattle.frame.specs.declared.Wrote.{Wrote}
 use Rattle.frame.specs.declared.Wrote.the-variants as wrote
 use Rattle.frame.proofs.Answers.{short-left, done-left}
 use Rattle.frame.proofs.Exactly.{reads-only, messages-long}
-use Rattle.frame.proofs.Laid.{moved, moves-by}
+use Rattle.frame.proofs.Laid.{moved}
 use Rattle.record.specs.Record.{recordLowest}
 use Rattle.record.specs.Forms.{textForm, textLength, packedForm, packedLength}
 use Rattle.record.specs.declared.Record.{Record}
@@ -68,17 +68,15 @@ unwritten checksum r out h p =
 pub text-long : (r : Record) → recordLowest r ≡ 0 → length (textForm .print r) ≡ textLength
 text-long r h = text-form-exact .long r (text-lowest r ∙ h) ∙ text-form-width
 
--- and who has read the message without it has the room alone, too
-module _ (checksum : Bool) (m out : List ℕ) (r : Record) (read : readOf packedForm checksum m ≡ accepted r) {w : Wrote}
+-- and who puts the text of a record and its ending has it too
+module _ (checksum : Bool) (out : List ℕ) (r : Record) (long : length (textForm .print r) ≡ textLength) {w : Wrote}
     (room : w ≡ wroteOf (roomFor (textLength + endingWidth checksum) (length out))) where
-  turned-as : {after : List ℕ} → after ≡ over out 0 (messageOf textForm checksum r) → Moves (turnedLength checksum) (turned checksum m) out w after
-  turned-as p =
-      moves-by (turnedLength checksum) out (turned-read checksum m read)
-      (moved (turnedLength checksum) out _ (room ∙ ap (λ (n : ℕ). wroteOf (roomFor n (length out))) (long-is checksum)) p)
+  put-as : {after : List ℕ} → after ≡ over out 0 (messageOf textForm checksum r) → Moves (turnedLength checksum) (accepted (messageOf textForm checksum r)) out w after
+  put-as p = moved (turnedLength checksum) out _ (room ∙ ap (λ (n : ℕ). wroteOf (roomFor n (length out))) (long-is checksum)) p
 
-  pub turned-short : (x : Refusal) → w ≡ wrote.Refused x → Moves (turnedLength checksum) (turned checksum m) out w out
-  turned-short x e = turned-as (short-left textForm checksum r out textLength (text-long r (read-fits checksum m r read)) room x e)
+  pub put-short : (x : Refusal) → w ≡ wrote.Refused x → Moves (turnedLength checksum) (accepted (messageOf textForm checksum r)) out w out
+  put-short x e = put-as (short-left textForm checksum r out textLength long room x e)
 
-  pub turned-done : {l1 l2 : List ℕ} (n : ℕ) → w ≡ wrote.Count n → l1 ≡ over out 0 (textForm .print r) → l2 ≡ over l1 textLength (ending checksum (take textLength l1)) →
-      Moves (turnedLength checksum) (turned checksum m) out w l2
-  turned-done n e p q = turned-as (done-left textForm checksum r out textLength (text-long r (read-fits checksum m r read)) room n e p q)
+  pub put-done : {l1 l2 : List ℕ} (n : ℕ) → w ≡ wrote.Count n → l1 ≡ over out 0 (textForm .print r) → l2 ≡ over l1 textLength (ending checksum (take textLength l1)) →
+      Moves (turnedLength checksum) (accepted (messageOf textForm checksum r)) out w l2
+  put-done n e p q = put-as (done-left textForm checksum r out textLength long room n e p q)

@@ -10,9 +10,12 @@ ghost use mathlib.Core.Bool.{false};
 ghost use mathlib.Core.List.{List};
 ghost use mathlib.Core.Path.{_≡_};
 ghost use Prim.Native.Nat.{ℕ};
-ghost use Rattle.refusal.specs.Answer.{isAccepted};
-ghost use Rattle.frame.specs.Message.{readOf};
-ghost use Rattle.record.specs.Forms.{packedForm};
+ghost use lib.ListN.{length};
+ghost use Rattle.refusal.specs.Answer.{accepted, isAccepted};
+ghost use Rattle.frame.specs.Message.{readOf, messageOf, Moves};
+ghost use Rattle.record.specs.Forms.{textForm, packedForm, packedLength};
+ghost use Rattle.packed_bytes.specs.Bytes.{packedRecord};
+ghost use Rattle.transfer.specs.Transfer.{turnedLength};
 ghost use Rattle.transfer.specs.Contracts.{PackedToText, ByRecord, RecordToText};
 
 // Turns a packed message into the text message of the same record, by way of the record: 3, 4, 5 and 6 of the message, then 2.
@@ -40,6 +43,22 @@ fn refusal_of(m: &[u8], checksum: bool) -> Wrote
     }
 }
 
+// Writes the text message of packed contents: 2, else the text and its ending.
+fn put_message(out: &mut [u8], s: &[u8], checksum: bool) -> Wrote
+    requires { ⌜ length (now s) ≡ packedLength ⌝ }
+    ensures { λ w.
+        ⌜ Moves (turnedLength checksum) (accepted (messageOf textForm checksum (packedRecord (now (s .entry)))))
+        (now (out .entry)) w (now (out .exit)) ⌝ }
+{
+    let answer = frame::room_for(out.len(), TEXT_LENGTH as u32, checksum);
+    let Wrote::Count(n) = answer else {
+        return answer;
+    };
+    straight::put_contents(out, s);
+    straight::end_text(out, checksum);
+    Wrote::Count(n)
+}
+
 // Turns a packed message into the text message of the same record, straight.
 pub fn packed_to_text(m: &[u8], checksum: bool, out: &mut [u8]) -> Wrote
     ensures { λ w. ⌜ PackedToText (now (m .entry)) checksum (now (out .entry)) w (now (out .exit)) ⌝ }
@@ -47,16 +66,10 @@ pub fn packed_to_text(m: &[u8], checksum: bool, out: &mut [u8]) -> Wrote
     if !packed_bytes::is_right(m, checksum) {
         return refusal_of(m, checksum);
     }
-    let answer = frame::room_for(out.len(), TEXT_LENGTH as u32, checksum);
-    let Wrote::Count(n) = answer else {
-        return answer;
-    };
-    straight::put_contents(out, &m[0..PACKED_LENGTH]);
-    straight::end_text(out, checksum);
-    Wrote::Count(n)
+    put_message(out, &m[0..PACKED_LENGTH], checksum)
 }
 
-// Writes a record as text by way of its packed bytes, which is what text_writer::write_text writes digit by digit without a divider.
+// Writes a record as text by way of its packed bytes, which is what text_writer::write_text writes without a divider.
 pub fn record_to_text(r: Record, checksum: bool, out: &mut [u8]) -> Wrote
     ensures { λ w. ⌜ RecordToText r checksum (now (out .entry)) w (now (out .exit)) ⌝ }
 {
@@ -64,13 +77,7 @@ pub fn record_to_text(r: Record, checksum: bool, out: &mut [u8]) -> Wrote
     if lowest != 0 {
         return Wrote::Refused(Refusal::Field(lowest));
     }
-    let answer = frame::room_for(out.len(), TEXT_LENGTH as u32, checksum);
-    let Wrote::Count(n) = answer else {
-        return answer;
-    };
     let mut packed = [0u8; PACKED_LENGTH];
     packed_writer::put_packed_record(&mut packed, r);
-    straight::put_contents(out, &packed);
-    straight::end_text(out, checksum);
-    Wrote::Count(n)
+    put_message(out, &packed, checksum)
 }
