@@ -21,7 +21,7 @@ use Rattle.record.specs.declared.Figures.{Figures}
 use Rattle.record.specs.declared.Record.{Record}
 use Rattle.record.proofs.Exact.{serial-long}
 use Rattle.text_writer.proofs.Written.{ten-long, contents-of, record-long}
-use Rattle.demand2.specs.MinusZero.{Message}
+use Rattle.demand2.specs.MinusZero.{PlusOrMinus}
 use Rattle.demand2.proofs.MinusZero.{text-zero}
 use Rattle.archive.specs.Old.{oldZoom, oldForm}
 use Rattle.archive.specs.Promises.{newBytes, oldBytes, serialIn}
@@ -101,6 +101,6 @@ serial-minus r nine =
 
 pub serial-in : (m : List ℕ) (r : Record) → readOf textForm false m ≡ accepted r → serialIn m ≡ r .serial
 serial-in m r e = let a = text-zero .accepts false m r .0 e in by (serial-long r (a .0)) (a .1) where
-  by : length (r .serial) ≡ 9 → Message textForm pupilOf 54 minusText false r m → serialIn m ≡ r .serial
+  by : length (r .serial) ≡ 9 → PlusOrMinus textForm pupilOf 54 minusText false r m → serialIn m ≡ r .serial
   by nine (inl k) = ap serialIn k ∙ serial-at (r .figures) (r .serial) nine
   by nine (inr (_, k)) = ap serialIn k ∙ serial-minus r nine

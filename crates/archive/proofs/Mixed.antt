@@ -29,7 +29,7 @@ use Rattle.frame.proofs.Answers.{reads-on}
 use Rattle.frame.proofs.Faithful.{ending-by}
 use Rattle.frame.proofs.Refuses.{refuses}
 use Rattle.record.specs.Record.{recordLowest}
-use Rattle.record.specs.Forms.{frontText, middleText, viewText, zoomText, backText, serial, groupsOf, recordOf, partsOf, textForm, textLength}
+use Rattle.record.specs.Forms.{frontText, middleText, viewText, zoomText, backText, serial, groupsOf, ofParts, partsOf, textForm, textLength}
 use Rattle.record.specs.Places.{textPlaces}
 use Rattle.record.specs.declared.Figures.{Figures}
 use Rattle.record.specs.declared.Record.{Record}
@@ -110,12 +110,12 @@ contents-wrong r s h k =
     let l = spelt-read old-exact f (m .0) h (m .2) .0 ∙ old-width ∙ sym groups-width in
     let g = frontText ⊗ (middleText ⊗ backText) in
     ap (textForm .parse) (m .4)
-    ∙ ap (mapped recordOf) (wrong-first _ (ap (g .parse) (take-at (m .0) (m .1) (g .width) l) ∙ groups-wrong f (m .0) h (m .2)))
+    ∙ ap (mapped ofParts) (wrong-first _ (ap (g .parse) (take-at (m .0) (m .1) (g .width) l) ∙ groups-wrong f (m .0) h (m .2)))
 
 mixed-exact : Exact form122
 unfolding form122
 mixed-exact =
-    iso-exact recordOf partsOf _ (λ p. refl) (λ r. refl)
+    iso-exact ofParts partsOf _ (λ p. refl) (λ r. refl)
     (⊗-exact _ _ (⊗-exact _ _ (front-text .exact) (⊗-exact _ _ (middle-text .exact) (back-blamed .exact))) (serial-blames .exact))
 
 mixed-width : form122 .width ≡ textLength

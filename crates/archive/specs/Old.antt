@@ -8,7 +8,7 @@ use Rattle.codec.specs.Codec.{Codec, failing, first, passed, number, tagged, _�
 use Rattle.codec.specs.Places.{Place}
 use Rattle.pointed.specs.Pointed.{point}
 use Rattle.record.specs.Record.{topDistance, topPupil, figuresLowest}
-use Rattle.record.specs.Forms.{Back, frontText, middleText, backBy, serial, figuresOf, groupsOf, recordOf, partsOf}
+use Rattle.record.specs.Forms.{Back, frontText, middleText, backBy, serial, figuresOf, groupsOf, ofParts, partsOf}
 use Rattle.record.specs.Places.{textPlaces}
 use Rattle.record.specs.declared.Figures.{Figures}
 use Rattle.record.specs.declared.Record.{Record}
@@ -48,4 +48,4 @@ oldPlaces = take 11 textPlaces
 
 -- firmware 1.22 (document 000: S from 1.22 on, x.xx up to 1.22): S as now, and the zoom as it was
 unfoldable pub form122 : Codec Record
-form122 = viaIso recordOf partsOf ((frontText ⊗ (middleText ⊗ oldBack)) ⊗ serial)
+form122 = viaIso ofParts partsOf ((frontText ⊗ (middleText ⊗ oldBack)) ⊗ serial)

@@ -14,7 +14,7 @@ use Rattle.units.specs.declared.Measurement.{Measurement}
 use Rattle.capture.specs.Words.{space, behind, word, spaces, sole}
 use Rattle.capture.specs.Numbers.{isValue, wholeValue, isWhole, wordValue}
 use Rattle.capture.specs.Capture.{receivedOf, slotsBy, slotsOf, isLetter, numberWords, isMeasurement, figuresAt, measurementAt, eventOf}
-use Rattle.capture.specs.Promises.{SaysByte, SaysSlots, Signed, Letter, Spaced, none, next, figuresFrom, SaysMeasurement}
+use Rattle.capture.specs.Promises.{SaysByte, SaysSlots, SignedNumber, IsLetter, Spaced, none, next, figuresFrom, SaysMeasurement}
 use Rattle.capture.specs.declared.Event.the-variants.{Received, Slots, Measured}
 use Rattle.capture.proofs.Words.{joined-spaces, joined-word, joined-behind, behind-suc, behind-next, word-next, word-behind, word-alone, led-spaces, led-byte, led-word}
 use Rattle.capture.proofs.Numbers.{numbers-more}
@@ -73,10 +73,10 @@ slot-reads s n r =
 
 -- ---- M
 
-whole-true : {w : List ℕ} {z : ℤ} → Signed w z → isWhole w ≡ true
+whole-true : {w : List ℕ} {z : ℤ} → SignedNumber w z → isWhole w ≡ true
 whole-true p = ap isValue (whole-reads p)
 
-whole-value : {w : List ℕ} {z : ℤ} → Signed w z → wordValue w ≡ z
+whole-value : {w : List ℕ} {z : ℤ} → SignedNumber w z → wordValue w ≡ z
 whole-value p = ap wholeValue (whole-reads p)
 
 numbers-next : (n i : ℕ) (s : List ℕ) → numbersAt n (suc i) s ≡ numbersAt n i (behind 1 s)
@@ -90,7 +90,7 @@ record Found (s : List ℕ) (zs : List ℤ) (t : List ℕ) : Type 0 where
   numbers : numbersAt (length zs) 0 s ≡ zs
   each : (j : ℕ) → j < length zs → isWhole (word j s) ≡ true
 
-module _ {w s t : List ℕ} {z : ℤ} {zs : List ℤ} (p : Signed w z) (r : Found s zs t) where
+module _ {w s t : List ℕ} {z : ℤ} {zs : List ℤ} (p : SignedNumber w z) (r : Found s zs t) where
   found-each : (j : ℕ) → j < suc (length zs) → isWhole (word j (w ++ space ∷ s)) ≡ true
   found-each zero h = ap isWhole (joined-word s w (whole-free p)) ∙ whole-true p
   found-each (suc j) h =
@@ -118,7 +118,7 @@ numbers-all s zero h = refl
 numbers-all s (suc n) h = numbers-more s n (numbers-all s n (λ j k. h j (omega arith))) (h n (omega arith))
 
 -- the line of M and a space, and what stands behind them
-module _ (front : List ℕ) {zs : List ℤ} {u : ℕ} {text : List ℕ} {z : ℤ} (eleven : length zs ≡ 11) (p : Spaced front zs (u ∷ space ∷ text)) (l : Letter u) (q : Signed text z) where
+module _ (front : List ℕ) {zs : List ℤ} {u : ℕ} {text : List ℕ} {z : ℤ} (eleven : length zs ≡ 11) (p : Spaced front zs (u ∷ space ∷ text)) (l : IsLetter u) (q : SignedNumber text z) where
   abbrev line : List ℕ
   line = 77 ∷ space ∷ front
 

@@ -79,9 +79,9 @@ abbrev pub numbersAt : ℕ → ℕ → List ℕ → List ℤ
 numbersAt zero i s = []
 numbersAt (suc n) i s = wordValue (word i s) ∷ numbersAt n (suc i) s
 
-value-in : (x : Whole) → isValue x ≡ true → x ≡ Value (wholeValue x)
-value-in (Value n) h = refl
-value-in Wrong h = never (cc)
+whole-value-is : (x : Whole) → isValue x ≡ true → x ≡ Value (wholeValue x)
+whole-value-is (Value n) h = refl
+whole-value-is Wrong h = never (cc)
 
 pub numbers-each : (s : List ℕ) (n i : ℕ) → numberWords n s ≡ true → i < n → isWhole (word (suc i) s) ≡ true
 unfolding numberWords
@@ -97,7 +97,7 @@ spaced-at (suc n) i s h k =
     let left = spaces-behind i (spaces s - i) s (omega arith) in
     let e : i + suc n ≡ suc i + n = omega arith in
     rw (word-parts i s (omega arith), e)
-    (next (whole-is (word i s) _ (value-in (wholeOf (word i s)) (k i (omega arith) (omega arith))))
+    (next (whole-is (word i s) _ (whole-value-is (wholeOf (word i s)) (k i (omega arith) (omega arith))))
     (spaced-at n (suc i) s (omega arith) (λ j l m. k j (omega arith) (omega arith))))
 
 -- what `isMeasurement` tests
@@ -141,7 +141,7 @@ measurement-says s kind t = record {
   eleven = refl;
   spaced = subst (λ (x : List ℕ). Spaced (behind 1 s) (numbersAt 11 1 s) x) (ends-in s t) (spaced-at 11 1 s (omega (arith, t .count)) each);
   letter = letter-is (sole (word 12 s)) (t .letter);
-  last = whole-is (word 13 s) _ (value-in (wholeOf (word 13 s)) (t .last));
+  last = whole-is (word 13 s) _ (whole-value-is (wholeOf (word 13 s)) (t .last));
   says = refl;
 } where
   each : (j : ℕ) → 1 ≤ j → j < 12 → isWhole (word j s) ≡ true

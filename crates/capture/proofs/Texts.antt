@@ -22,7 +22,7 @@ use Rattle.digits.proofs.Laws.{value-lt}
 use Rattle.capture.specs.Words.{space, spaces}
 use Rattle.capture.specs.Numbers.{hexValue, nineDigits, digitsOf, wholeBy, wholeOf}
 use Rattle.capture.specs.Capture.{isLetter}
-use Rattle.capture.specs.Promises.{Hex, Number, Signed, plain, minus, Letter}
+use Rattle.capture.specs.Promises.{Hex, Number, SignedNumber, plain, minus, IsLetter}
 use Rattle.capture.specs.declared.Whole.the-variants.{Value, Wrong}
 
 -- ---- digits
@@ -72,7 +72,7 @@ signed-value : (below : Bool) (f : Field) (z : ℤ) → wholeBy below f ≡ Valu
 signed-value below (field.Value n) z e = (n, refl, cc)
 signed-value below field.Wrong z e = never (cc)
 
-pub whole-is : (w : List ℕ) (z : ℤ) → wholeOf w ≡ Value z → Signed w z
+pub whole-is : (w : List ℕ) (z : ℤ) → wholeOf w ≡ Value z → SignedNumber w z
 unfolding wholeOf
 whole-is [] z e = never (cc)
 whole-is (b ∷ s) z e =
@@ -91,17 +91,17 @@ plain-reads (b ∷ s) n r =
     let h = digit-high b (every-head _ b s (r .every)) in
     rw (ne-eqb b 45 (λ e. omega arith), number-reads (b ∷ s) n r)
 
-pub whole-reads : {w : List ℕ} {z : ℤ} → Signed w z → wholeOf w ≡ Value z
+pub whole-reads : {w : List ℕ} {z : ℤ} → SignedNumber w z → wholeOf w ≡ Value z
 unfolding wholeOf
 whole-reads (plain {w} {n} r) = plain-reads w n r
 whole-reads (minus {w} {n} r) = rw (number-reads w n r)
 
-pub whole-free : {w : List ℕ} {z : ℤ} → Signed w z → spaces w ≡ 0
+pub whole-free : {w : List ℕ} {z : ℤ} → SignedNumber w z → spaces w ≡ 0
 unfolding spaces
 whole-free (plain {w} r) = digits-free w (r .every)
 whole-free (minus {w} r) = digits-free w (r .every)
 
-pub whole-short : {w : List ℕ} {z : ℤ} → Signed w z → length w ≤ 10
+pub whole-short : {w : List ℕ} {z : ℤ} → SignedNumber w z → length w ≤ 10
 whole-short (plain r) = let h = r .few in omega arith
 whole-short (minus r) = let h = r .few in omega arith
 
@@ -134,18 +134,18 @@ hex-reads d x (inr (inr h)) =
     let t = h .1 in
     (rw (above 48 57 d (omega arith) (omega arith), above 65 70 d (omega arith) (omega arith), inside 97 102 d k t) (omega arith), omega arith, omega arith)
 
-pub letter-is : (u : ℕ) → isLetter u ≡ true → Letter u
+pub letter-is : (u : ℕ) → isLetter u ≡ true → IsLetter u
 unfolding isLetter
 letter-is u h =
     told (within 65 90 u)
     (λ e. inl (at-least 65 90 u e, at-most 65 90 u e))
     (λ e. let f : within 97 122 u ≡ true = rw e at h in inr (at-least 97 122 u f, at-most 97 122 u f))
 
-pub letter-low : {u : ℕ} → Letter u → 65 ≤ u
+pub letter-low : {u : ℕ} → IsLetter u → 65 ≤ u
 letter-low (inl h) = h .0
 letter-low (inr h) = let k = h .0 in omega arith
 
-pub letter-reads : (u : ℕ) → Letter u → isLetter u ≡ true
+pub letter-reads : (u : ℕ) → IsLetter u → isLetter u ≡ true
 unfolding isLetter
 letter-reads u (inl h) = rw (inside 65 90 u (h .0) (h .1))
 letter-reads u (inr h) =

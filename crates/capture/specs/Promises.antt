@@ -55,18 +55,18 @@ pub record SaysSlots (s : List ℕ) (n : ℕ) : Type 0 where
 -- ---- M
 
 -- a number, or a minus and a number
-pub data Signed : List ℕ → ℤ → Type 0 where
-  plain : {w : List ℕ} {n : ℕ} → Number w n → Signed w (pos n)
-  minus : {w : List ℕ} {n : ℕ} → Number w n → Signed (45 ∷ w) (signedOf true n)
+pub data SignedNumber : List ℕ → ℤ → Type 0 where
+  plain : {w : List ℕ} {n : ℕ} → Number w n → SignedNumber w (pos n)
+  minus : {w : List ℕ} {n : ℕ} → Number w n → SignedNumber (45 ∷ w) (signedOf true n)
 
 -- s is these numbers, a space behind each, and then t
 pub data Spaced : List ℕ → List ℤ → List ℕ → Type 0 where
   none : {t : List ℕ} → Spaced t [] t
-  next : {w s t : List ℕ} {z : ℤ} {zs : List ℤ} → Signed w z → Spaced s zs t → Spaced (w ++ 32 ∷ s) (z ∷ zs) t
+  next : {w s t : List ℕ} {z : ℤ} {zs : List ℤ} → SignedNumber w z → Spaced s zs t → Spaced (w ++ 32 ∷ s) (z ∷ zs) t
 
 -- A..Z, a..z
-abbrev pub Letter : ℕ → Type 0
-Letter u = ((65 ≤ u) × (u ≤ 90)) ⊎ ((97 ≤ u) × (u ≤ 122))
+abbrev pub IsLetter : ℕ → Type 0
+IsLetter u = ((65 ≤ u) × (u ≤ 90)) ⊎ ((97 ≤ u) × (u ≤ 122))
 
 -- what a field that holds no number below zero is given for one: more than any holds
 abbrev pub given : ℤ → ℕ
@@ -99,8 +99,8 @@ pub record SaysMeasurement (s : List ℕ) (m : Measurement) : Type 0 where
   pub is : s ≡ 77 ∷ 32 ∷ front
   pub eleven : length numbers ≡ 11
   pub spaced : Spaced front numbers (unit ∷ 32 ∷ text)
-  pub letter : Letter unit
-  pub last : Signed text temperature
+  pub letter : IsLetter unit
+  pub last : SignedNumber text temperature
   pub says : m ≡ record { unit = unit; figures = figuresFrom numbers; temperature = temperature }
 
 -- one of the fields that hold no number below zero was given one

@@ -15,7 +15,7 @@ use Rattle.frame.specs.Message.{roomFor, thenLeft}
 use Rattle.cutter.specs.Cutter.{cutterLength, zeros, fresh, validCutter, heldFrom, heldMessage, invalid, nothing, ended, Cutting, cutOf, endIn}
 use Rattle.cutter.specs.Cutter.{answerBy, leftBySaid, hasEnded, thenRead, wholeIn, cutAnswer}
 use Rattle.cutter.specs.Stream.{messages, judged}
-use Rattle.cutter.specs.Promises.{Answers, CallParts, Promised}
+use Rattle.cutter.specs.Promises.{CallAnswers, CallParts, Promised}
 use Rattle.cutter.specs.declared.Cutter.{Cutter}
 use Rattle.cutter.proofs.Cuts.{cut-some, cut-held, held-small, held-long}
 use Rattle.cutter.proofs.Calls.{call, call-refused}
@@ -56,7 +56,7 @@ module _ (c : Cutter) (p : List ℕ) where
 
 -- what a call says, known
 module _ (c : Cutter) (p out : List ℕ) where
-  handed : Answers c p out
+  handed : CallAnswers c p out
   unfolding cutAnswer answerBy leftBySaid hasEnded wholeIn thenRead thenLeft roomFor unless
   handed = record {
     refuses = λ e. let q = refused-same c p e in (rw e (rw (q .0) (rw (q .1))), rw e);

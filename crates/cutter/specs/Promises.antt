@@ -109,7 +109,7 @@ pub record EachCall : Type 0 where
 
 -- ---- the answer of `cut`, and what is left in the lent memory
 
-pub record Answers (c : Cutter) (p out : List ℕ) : Type 0 where
+pub record CallAnswers (c : Cutter) (p out : List ℕ) : Type 0 where
   -- 16, used 0, nothing written
   pub refuses : cutOf c p .said ≡ invalid →
       (cutAnswer (cutOf c p) out ≡ record { wrote = wrote.Refused State; used = 0; ended = false; cutter = c }) × (leftBySaid wholeLeft (cutOf c p .said) out ≡ out)
@@ -160,5 +160,5 @@ pub record Promised : Type 1 where
   pub any-cutting : AnyCutting
   pub each-call : EachCall
   pub lent : Lent
-  pub answers : (c : Cutter) (p out : List ℕ) → Answers c p out
+  pub answers : (c : Cutter) (p out : List ℕ) → CallAnswers c p out
   pub parts : CallParts

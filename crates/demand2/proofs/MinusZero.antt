@@ -33,7 +33,7 @@ use Rattle.record.specs.Forms.{textLength, packedLength, pupilOf, textForm, pac
 use Rattle.record.specs.Places.{textPlaces, packedPlaces}
 use Rattle.record.proofs.Exact.{text-form-blames, packed-form-blames, text-lowest, packed-lowest, text-form-width, packed-form-width}
 use Rattle.record.proofs.PupilAt.{PupilAt, text-at, packed-at}
-use Rattle.demand2.specs.MinusZero.{Message, MinusZero}
+use Rattle.demand2.specs.MinusZero.{PlusOrMinus, MinusZero}
 
 module _ {A : Type 0} (form : Codec A) (rule : A → ℕ) (of : A → ℤ) (pupil : Codec ℤ) (places : List Place) (w at : ℕ) (plus minus : List ℕ) (blames : Blames form 0 places)
     (wide : form .width ≡ w) (same : (r : A) → form .lowest r ≡ rule r) (zeros : TwoZeros pupil plus minus) (stands : PupilAt form rule of pupil places at) (differ : plus ≢ minus) where
@@ -116,18 +116,18 @@ module _ {A : Type 0} (form : Codec A) (rule : A → ℕ) (of : A → ℤ) (pupi
     sent = sym (same r) ∙ sendable
 
     -- an accepted message is the writer's, or has minus zero in the pupil's place
-    read-so : Message form of at minus checksum r m
+    read-so : PlusOrMinus form of at minus checksum r m
     read-so =
         let s = in-map (framed checksum) (spellings form r) (reads-only form exact checksum m r e .1) in
         by (s .0) (s .2) (subst (λ (l : List (List ℕ)). s .0 ∈ l) (spelt r) (s .1))
       where
-        by : (s : List ℕ) → m ≡ framed checksum s → (s ≡ form .print r) ⊎ (s ∈ zeroToo (over (form .print r) at minus) z) → Message form of at minus checksum r m
+        by : (s : List ℕ) → m ≡ framed checksum s → (s ≡ form .print r) ⊎ (s ∈ zeroToo (over (form .print r) at minus) z) → PlusOrMinus form of at minus checksum r m
         by s f (inl k) = inl (f ∙ ap (framed checksum) k)
         by s f (inr k) = let o = in-too _ z k in inr (o .1, f ∙ ap (framed checksum) (o .0))
 
     either : {C : Type 0} → (m ≡ messageOf form checksum r → C) → (z ≡ pos 0 → m ≡ framed checksum (put r minus) → C) → C
     either {C} f g = by read-so where
-      by : Message form of at minus checksum r m → C
+      by : PlusOrMinus form of at minus checksum r m → C
       by (inl k) = f k
       by (inr (o, k)) = g o (k ∙ ap (framed checksum) (minus-put r o))
 
@@ -159,9 +159,9 @@ module _ {A : Type 0} (form : Codec A) (rule : A → ℕ) (of : A → ℤ) (pupi
         let contents : take (form .width) m ≡ put r minus = ap (take (form .width)) k ∙ take-at (put r minus) (ending checksum (put r minus)) (form .width) long in
         ap (framed checksum) (p ∙ sym back ∙ ap (λ (s : List ℕ). over s at plus) (sym contents)))
 
-  accepts : (checksum : Bool) (m : List ℕ) (r : A) → (readOf form checksum m ≡ accepted r) ↔ ((rule r ≡ 0) × Message form of at minus checksum r m)
+  accepts : (checksum : Bool) (m : List ℕ) (r : A) → (readOf form checksum m ≡ accepted r) ↔ ((rule r ≡ 0) × PlusOrMinus form of at minus checksum r m)
   accepts checksum m r = (λ e. (sent checksum m r e, read-so checksum m r e), λ h. exactly form exact checksum m r .1 (same r ∙ h .0, by (h .1))) where
-    by : Message form of at minus checksum r m → m ∈ messagesOf form checksum r
+    by : PlusOrMinus form of at minus checksum r m → m ∈ messagesOf form checksum r
     by (inl k) = inl k
     by (inr (o, k)) = as-member (messagesOf form checksum r) k (map-in (framed checksum) (spellings form r) _ (minus-spells r o))
 

@@ -17,13 +17,13 @@ use Rattle.frame.specs.Message.{readOf, messageOf}
 use Rattle.pupil.specs.Pupil.{zeroToo}
 
 -- the writer's message for r, or, where the pupil is 0, the same with minus zero in the pupil's place, under its own checksum
-abbrev pub Message : {A : Type 0} → Codec A → (A → ℤ) → ℕ → List ℕ → Bool → A → List ℕ → Type 0
-Message form pupilOf at minus checksum r m =
+abbrev pub PlusOrMinus : {A : Type 0} → Codec A → (A → ℤ) → ℕ → List ℕ → Bool → A → List ℕ → Type 0
+PlusOrMinus form pupilOf at minus checksum r m =
     (m ≡ messageOf form checksum r) ⊎ ((pupilOf r ≡ pos 0) × (m ≡ framed checksum (over (form .print r) at minus)))
 
 pub record MinusZero {A : Type 0} (form : Codec A) (rule : A → ℕ) (pupilOf : A → ℤ) (places : List Place) (at : ℕ) (plus minus : List ℕ) : Type 0 where
   -- "From now on readers accept the writers' messages and these two spellings", one in each form
-  pub accepts : (checksum : Bool) (m : List ℕ) (r : A) → (readOf form checksum m ≡ accepted r) ↔ ((rule r ≡ 0) × Message form pupilOf at minus checksum r m)
+  pub accepts : (checksum : Bool) (m : List ℕ) (r : A) → (readOf form checksum m ≡ accepted r) ↔ ((rule r ≡ 0) × PlusOrMinus form pupilOf at minus checksum r m)
   -- these are the spellings of the contents by which 'accepts exactly' is said of every codec
   pub spelt : (r : A) → spellings form r ≡ form .print r ∷ zeroToo (over (form .print r) at minus) (pupilOf r)
   -- "The readers must take both as 0", and as nothing else

@@ -81,14 +81,14 @@ fn uncounted(x: u32) -> u32
 }
 
 // A number cut above its seven lowest digits.
-struct Parts {
+struct HighLow {
     high: u32,
     low: u32,
 }
 
 // Takes 10^7 away as often as it fits. What is left is below `times` times 10^7, which each turn halves; a u32 is
 // below 430 times 10^7.
-fn cut(n: u32) -> Parts
+fn cut(n: u32) -> HighLow
     ensures { λ r. ⌜ (r .high ≡ n / 10 ^ 7) × (r .low ≡ n % 10 ^ 7) ⌝ }
 {
     let mut high = 0;
@@ -102,7 +102,7 @@ fn cut(n: u32) -> Parts
         }
         times -= half;
     }
-    Parts { high, low }
+    HighLow { high, low }
 }
 
 // Holds what n is below the power with width zeros.

@@ -26,7 +26,7 @@ use Rattle.port.specs.declared.Sent.{Sent}
 use Rattle.port.specs.declared.Sent.the-variants.{Byte, Idle, Refused}
 use Rattle.port.specs.Port.{validPort, movedIf, sentUpTo, sendFrom, chooseOf, slotOf}
 use Rattle.fill.specs.declared.Onward.{Onward}
-use Rattle.fill.specs.Fill.{Run, thenRun, runOf, ahead, Sends, Goes}
+use Rattle.fill.specs.Fill.{SlotRun, thenRun, runOf, ahead, Sends, Goes}
 
 -- ---- slots in a row
 
@@ -163,7 +163,7 @@ pub record Ends (l₀ : List ℕ) (p t : Port) (n : ℕ) (l : List ℕ) : Type 0
   pub bytes : l ≡ over l₀ 0 (runOf (length l₀) p .bytes)
 
 -- a slot that sends nothing ends the run
-quiet : (t : Sent) (q : Port) (r : Run) → OneOf (1 ∷ 2 ∷ []) (tagOf the-type t) → thenRun t q r ≡ record { port = q; bytes = [] }
+quiet : (t : Sent) (q : Port) (r : SlotRun) → OneOf (1 ∷ 2 ∷ []) (tagOf the-type t) → thenRun t q r ≡ record { port = q; bytes = [] }
 quiet (Byte b) q r h = absurd (miss (1 ∷ 2 ∷ []) 0 tt h)
 quiet Idle q r h = refl
 quiet (Refused n) q r h = refl
@@ -209,9 +209,9 @@ module _ {l₀ : List ℕ} {p : Port} {l : List ℕ} {q : Port} {i : ℕ} (a : A
       let f : runOf (length l₀) p ≡ record { port = t; bytes = a .sent } =
       ap (λ (k : ℕ). runOf k p) n ∙ a .sends .run (length l₀ - i) ∙ ap (ahead (a .sent)) e ∙ ap (λ (x : List ℕ). record { port = t; bytes = x }) (append-nil (a .sent)) in
       record {
-        port = sym (ap (λ (r : Run). r .port) f);
-        count = sym (ap (λ (r : Run). length (r .bytes)) f ∙ a .sends .long);
-        bytes = a .written ∙ sym (ap (λ (r : Run). over l₀ 0 (r .bytes)) f);
+        port = sym (ap (λ (r : SlotRun). r .port) f);
+        count = sym (ap (λ (r : SlotRun). length (r .bytes)) f ∙ a .sends .long);
+        bytes = a .written ∙ sym (ap (λ (r : SlotRun). over l₀ 0 (r .bytes)) f);
       }
 
   -- the buffer is full

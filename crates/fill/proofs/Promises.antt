@@ -17,7 +17,7 @@ use Rattle.port.specs.declared.Sent.the-variants as sent
 use Rattle.port.specs.Port.{validPort, slotOf}
 use Rattle.port.proofs.Valid.{slot-fine}
 use Rattle.fill.specs.declared.Filled.{Filled}
-use Rattle.fill.specs.Fill.{Run, thenRun, runOf, fillOf, fillLeaves}
+use Rattle.fill.specs.Fill.{SlotRun, thenRun, runOf, fillOf, fillLeaves}
 use Rattle.fill.specs.Promises.{Promised}
 
 -- a refused call is one of a port that is not valid
@@ -49,7 +49,7 @@ refused-bytes : (p : Port) (out : List ℕ) (r : Refusal) → fillOf p (length o
 unfolding fillLeaves
 refused-bytes p out r e = cond-no _ _ (was-invalid p (length out) r e)
 
-then-most : (t : Sent) (q : Port) (r : Run) (n : ℕ) → length (r .bytes) ≤ n → length (thenRun t q r .bytes) ≤ suc n
+then-most : (t : Sent) (q : Port) (r : SlotRun) (n : ℕ) → length (r .bytes) ≤ n → length (thenRun t q r .bytes) ≤ suc n
 then-most (sent.Byte b) q r n h = omega arith
 then-most sent.Idle q r n h = omega arith
 then-most (sent.Refused x) q r n h = omega arith
@@ -72,7 +72,7 @@ past-stays p out =
     let h = run-most p (length out) in
     told (validPort p) (λ v. rw v (drop-over out (runOf (length out) p .bytes) 0 (length (runOf (length out) p .bytes)) (omega arith) (omega arith))) (λ f. rw f)
 
-then-valid : (t : Sent) (q : Port) (r : Run) → validPort q ≡ true → validPort (r .port) ≡ true → validPort (thenRun t q r .port) ≡ true
+then-valid : (t : Sent) (q : Port) (r : SlotRun) → validPort q ≡ true → validPort (r .port) ≡ true → validPort (thenRun t q r .port) ≡ true
 then-valid (sent.Byte b) q r h k = k
 then-valid sent.Idle q r h k = h
 then-valid (sent.Refused x) q r h k = h

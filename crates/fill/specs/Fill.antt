@@ -16,18 +16,18 @@ use Rattle.fill.specs.declared.Onward.{Onward}
 use Rattle.fill.specs.declared.Filled.{Filled}
 
 -- what a run of slots sends, and the port after it
-pub record Run : Type 0 where
+pub record SlotRun : Type 0 where
   pub port : Port
   pub bytes : List ℕ
 
 -- a byte goes before what is sent after it; a slot that sends nothing ends the run
-abbrev pub thenRun : Sent → Port → Run → Run
+abbrev pub thenRun : Sent → Port → SlotRun → SlotRun
 thenRun (sent.Byte b) q r = record { port = r .port; bytes = b ∷ r .bytes }
 thenRun sent.Idle q r = record { port = q; bytes = [] }
 thenRun (sent.Refused x) q r = record { port = q; bytes = [] }
 
 -- at most n slots
-unfoldable pub runOf : ℕ → Port → Run
+unfoldable pub runOf : ℕ → Port → SlotRun
 runOf zero p = record { port = p; bytes = [] }
 runOf (suc n) p = thenRun (slotOf p .sent) (slotOf p .port) (runOf n (slotOf p .port))
 
@@ -35,7 +35,7 @@ abbrev pub leastOf : ℕ → ℕ → ℕ
 leastOf a b = cond (ltb a b) a b
 
 -- bytes before what a run sends
-abbrev pub ahead : List ℕ → Run → Run
+abbrev pub ahead : List ℕ → SlotRun → SlotRun
 ahead xs r = record { port = r .port; bytes = xs ++ r .bytes }
 
 -- n slots from p send these bytes, one each, and leave q: so a run from p is these, and then a run from q

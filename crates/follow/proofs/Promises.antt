@@ -27,7 +27,7 @@ use Rattle.line.specs.Line.{blank}
 use Rattle.rules.specs.Lens.{lens}
 use Rattle.rules.specs.Promise.{actBy, replyBy, recordBy}
 use Rattle.port.specs.declared.Port.{Port}
-use Rattle.port.specs.Port.{unstarted, started, startOf, startVerdict, handed, unitOf, slotOf, sendFrom, chooseOf, restOf, actOf, movedIf, validPort}
+use Rattle.port.specs.Port.{unstarted, startedPort, startOf, startVerdict, handed, unitOf, slotOf, sendFrom, chooseOf, restOf, actOf, movedIf, validPort}
 use Rattle.port.proofs.Promises.{leaves-new}
 use Rattle.walk.specs.Calls.{slots-once, afterAll, eventsAll}
 use Rattle.walk.proofs.Calls.{of-the-port}
@@ -56,7 +56,7 @@ use Rattle.follow.proofs.Whole.{replays}
 -- ---- a start is one of the port's
 
 module _ (letter : ℕ) (e : startWith letter .verdict ≡ Done) where
-  source-is : startWith letter .run .port .source ≡ started (benchSettings letter) benchMeasurement .source
+  source-is : startWith letter .run .port .source ≡ startedPort (benchSettings letter) benchMeasurement .source
   unfolding startWith
   source-is = ap (λ (p : Port). p .source) (leaves-new unstarted blank (benchSettings letter) benchMeasurement e .0)
 

@@ -10,7 +10,7 @@ use Rattle.laws.proofs.ListLaws.{drop-of-take, last-part}
 use Rattle.codec.specs.Codec.{Codec, Got, got, wrong, passed, both, mapped, filled, textBehind, _⊗_, viaIso, parsed}
 use Rattle.codec.proofs.Texts.{filled-whole}
 use Rattle.codec.proofs.Fields.{parsed-whole, parsed-other}
-use Rattle.record.specs.Forms.{Front, Middle, Back, serial, figuresOf, groupsOf, recordOf, partsOf}
+use Rattle.record.specs.Forms.{Front, Middle, Back, serial, figuresOf, groupsOf, ofParts, partsOf}
 use Rattle.record.specs.declared.Figures.{Figures}
 use Rattle.record.specs.declared.Record.{Record}
 use Rattle.serial.proofs.Field.{serial-read}
@@ -46,7 +46,7 @@ module _ {e : Eleven} (s : List ℕ) where
 
 -- ---- the parts of a form
 
-remade : (p : Got (Front × (Middle × Back))) (q : Got (List ℕ)) → mapped recordOf (both p q) ≡ mapped recordWith (both (mapped figuresOf p) q)
+remade : (p : Got (Front × (Middle × Back))) (q : Got (List ℕ)) → mapped ofParts (both p q) ≡ mapped recordWith (both (mapped figuresOf p) q)
 unfolding mapped both
 remade (got a) (got b) = refl
 remade (got a) (wrong i) = refl
@@ -76,7 +76,7 @@ module _ (front : Codec Front) (middle : Codec Middle) (back : Codec Back) (i j 
 module _ (front : Codec Front) (middle : Codec Middle) (back : Codec Back) (i j k : ℕ) (p : front .width ≡ i) (q : middle .width ≡ j) (r : back .width ≡ k) (s : List ℕ) (l : length s ≡ i + (j + k) + 10) where
   -- three groups, and the serial behind them
   abbrev pub form : Codec Record
-  form = viaIso recordOf partsOf ((front ⊗ (middle ⊗ back)) ⊗ serial)
+  form = viaIso ofParts partsOf ((front ⊗ (middle ⊗ back)) ⊗ serial)
 
   pub record-parts : form .parse s ≡
       mapped recordWith (both (mapped figuresOf (both (front .parse (take i s)) (both (middle .parse (take j (drop i s))) (back .parse (take k (drop (i + j) s))))))

@@ -12,7 +12,7 @@ use Rattle.recorder.specs.declared.Made.{Made}
 use Rattle.recorder.specs.declared.Recorder.{Recorder}
 use Rattle.layout.specs.Layout.{recordBytes, recordWidth, fixedBytes, fixedWidth}
 use Rattle.hourheron.specs.Host.{toldBy, Lays}
-use Rattle.hourheron.specs.Takes.{layIn, layLeft, readingBy, madeReading, LaysMade, takenIn, takenLeft}
+use Rattle.hourheron.specs.Takes.{layIn, layLeft, readingBy, madeReading, LaysMade, takeIn, takeLeft}
 use Rattle.hourheron.specs.declared.Answer as host
 use Rattle.hourheron.proofs.Answers.{record-told, fixed-told}
 
@@ -36,23 +36,23 @@ made-told (asRecord a) = ap asRecord (record-told a refl)
 -- ---- a piece
 
 module _ (r : Recorder) (out : List ℕ) where
-  in-by : (said : Said) (n : ℕ) (c : Cutter) → takenIn (takeBy r said n c) out ≡ answerBy (λ m. layIn (readingBy r m) out) said
-  unfolding takenIn takeBy answerBy afterwards
+  in-by : (said : Said) (n : ℕ) (c : Cutter) → takeIn (takeBy r said n c) out ≡ answerBy (λ m. layIn (readingBy r m) out) said
+  unfolding takeIn takeBy answerBy afterwards
   in-by invalid n c = refl
   in-by nothing n c = refl
   in-by (ended m) n c = ap (λ (x : Reading). layIn x out) (made-told (readingBy r m))
 
-  left-by : (said : Said) (n : ℕ) (c : Cutter) → takenLeft (takeBy r said n c) out ≡ leftBySaid (λ m d. layLeft (readingBy r m) d) said out
-  unfolding takenLeft takeBy leftBySaid
+  left-by : (said : Said) (n : ℕ) (c : Cutter) → takeLeft (takeBy r said n c) out ≡ leftBySaid (λ m d. layLeft (readingBy r m) d) said out
+  unfolding takeLeft takeBy leftBySaid
   left-by invalid n c = refl
   left-by nothing n c = refl
   left-by (ended m) n c = ap (λ (x : Reading). layLeft x out) (made-told (readingBy r m))
 
   module _ (p : List ℕ) where
-    pub taken-in : takenIn (takeOf r p) out ≡ answerBy (λ m. layIn (readingBy r m) out) (cutOf (r .cutter) p .said)
+    pub taken-in : takeIn (takeOf r p) out ≡ answerBy (λ m. layIn (readingBy r m) out) (cutOf (r .cutter) p .said)
     unfolding takeOf
     taken-in = in-by (cutOf (r .cutter) p .said) (cutOf (r .cutter) p .used) (cutOf (r .cutter) p .cutter)
 
-    pub taken-left : takenLeft (takeOf r p) out ≡ leftBySaid (λ m d. layLeft (readingBy r m) d) (cutOf (r .cutter) p .said) out
+    pub taken-left : takeLeft (takeOf r p) out ≡ leftBySaid (λ m d. layLeft (readingBy r m) d) (cutOf (r .cutter) p .said) out
     unfolding takeOf
     taken-left = left-by (cutOf (r .cutter) p .said) (cutOf (r .cutter) p .used) (cutOf (r .cutter) p .cutter)

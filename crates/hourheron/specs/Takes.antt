@@ -60,11 +60,11 @@ LaysMade m out r after = Gives (answerOf (layIn (madeReading m) out)) (layLeft (
 abbrev pub answerBeside : Verdict → host.Answer
 answerBeside v = answerOf (afterwards v (accepted 0))
 
-unfoldable pub takenIn : Recorded → List ℕ → Answer ℕ
-takenIn t out = cond (t .ended) (layIn (madeReading (t .made)) out) (afterwards (t .made .verdict) (accepted 0))
+unfoldable pub takeIn : Recorded → List ℕ → Answer ℕ
+takeIn t out = cond (t .ended) (layIn (madeReading (t .made)) out) (afterwards (t .made .verdict) (accepted 0))
 
-unfoldable pub takenLeft : Recorded → List ℕ → List ℕ
-takenLeft t out = cond (t .ended) (layLeft (madeReading (t .made)) out) out
+unfoldable pub takeLeft : Recorded → List ℕ → List ℕ
+takeLeft t out = cond (t .ended) (layLeft (madeReading (t .made)) out) out
 
 abbrev pub LaysTaken : Recorded → List ℕ → host.Answer → List ℕ → Type 0
-LaysTaken t out r after = Gives (answerOf (takenIn t out)) (takenLeft t out) r after
+LaysTaken t out r after = Gives (answerOf (takeIn t out)) (takeLeft t out) r after

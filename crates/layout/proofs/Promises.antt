@@ -29,14 +29,14 @@ use Rattle.layout.specs.Promises.{Promised}
 use Rattle.layout.proofs.Laws.{record-long, fixed-long}
 
 -- the lowest bytes of a number hold it
-value-lowest : (w n : ℕ) → n < 256 ^ w → fromLowest (lowestFirst w n) ≡ n
+from-lowest : (w n : ℕ) → n < 256 ^ w → fromLowest (lowestFirst w n) ≡ n
 unfolding fromLowest lowestFirst
-value-lowest zero n h = omega arith
-value-lowest (suc w) n h = rw (value-lowest w (n / 256) (omega (arith, pow-succ' 256 w))) (omega arith)
+from-lowest zero n h = omega arith
+from-lowest (suc w) n h = rw (from-lowest w (n / 256) (omega (arith, pow-succ' 256 w))) (omega arith)
 
 -- so they hold a field that is in its range
 in-range : (w n top i : ℕ) → top < 256 ^ w → failing (leb n top) (suc i) ≡ 0 → fromLowest (lowestFirst w n) ≡ n
-in-range w n top i h z = let k = leb-true n top (holds (leb n top) i z) in value-lowest w n (omega arith)
+in-range w n top i h z = let k = leb-true n top (holds (leb n top) i z) in from-lowest w n (omega arith)
 
 -- two's complement holds a number of 31 bits and a sign
 signed-twos : (z : ℤ) → size z < 2 ^ 31 → signedBy (twos z) ≡ z
@@ -54,7 +54,7 @@ twos-fits (negsuc n) h = omega arith
 pupil-back : (z : ℤ) (i : ℕ) → failing (leb (size z) topPupil) (suc i) ≡ 0 → signedBy (fromLowest (lowestFirst 4 (twos z))) ≡ z
 pupil-back z i h =
     let k = leb-true (size z) topPupil (holds (leb (size z) topPupil) i h) in
-    ap signedBy (value-lowest 4 (twos z) (twos-fits z (omega arith))) ∙ signed-twos z (omega arith)
+    ap signedBy (from-lowest 4 (twos z) (twos-fits z (omega arith))) ∙ signed-twos z (omega arith)
 
 -- ---- a record
 
@@ -78,7 +78,7 @@ figures-back f s z =
     λ j. record {
       focus = in-range 4 (f .focus) topDistance 0 (omega arith) (front .0) j;
       aperture = in-range 4 (f .aperture) 4095 1 (omega arith) (front .1) j;
-      stop = value-lowest 4 (f .stop) (omega arith) j;
+      stop = from-lowest 4 (f .stop) (omega arith) j;
       tenth = in-range 4 (f .tenth) 9 3 (omega arith) (front .3) j;
       focal = in-range 4 (f .focal) 1023 4 (omega arith) (middle .0) j;
       hyperfocal = in-range 4 (f .hyperfocal) topDistance 5 (omega arith) (middle .1) j;

@@ -8,7 +8,7 @@ use lib.ListN.{length, take, drop, getD}
 use Rattle.sign.specs.Sign.{signedOf}
 use Rattle.codec.specs.Codec.{Got, got, wrong}
 use Rattle.stop.specs.Stop.{stopIn}
-use Rattle.record.specs.Forms.{Front, Middle, Back, recordOf}
+use Rattle.record.specs.Forms.{Front, Middle, Back, ofParts}
 use Rattle.record.specs.declared.Record.{Record}
 
 -- a value was found
@@ -48,4 +48,4 @@ backIn s = (sixes (take 2 s), (pupilIn (sixes (take 2 (drop 2 s))), sixes (take 
 
 -- the record, its serial behind S
 abbrev pub packedRecord : List ℕ → Record
-packedRecord m = recordOf ((frontIn (take 9 m), (middleIn (take 14 (drop 9 m)), backIn (take 6 (drop 23 m)))), take 9 (drop 30 m))
+packedRecord m = ofParts ((frontIn (take 9 m), (middleIn (take 14 (drop 9 m)), backIn (take 6 (drop 23 m)))), take 9 (drop 30 m))

@@ -27,7 +27,7 @@ use Rattle.port.specs.declared.Received.{Received}
 use Rattle.port.specs.declared.Handed.{Handed}
 use Rattle.port.specs.declared.Started.{Started}
 use Rattle.port.specs.declared.Sent.the-variants as sent
-use Rattle.port.specs.Port.{validPort, slotOf, takenPort, takenOf, receiveOf, handed, measuredPort, measureOf, unitOf, started, startVerdict, startedBy, startOf}
+use Rattle.port.specs.Port.{validPort, slotOf, takenPort, takenOf, receiveOf, handed, measuredPort, measureOf, unitOf, startedPort, startVerdict, startedBy, startOf}
 use Rattle.port.specs.Promises.{LeavesNew, StartUnit, RefusedSame, KeptValid}
 use Rattle.port.proofs.Valid.{source-valid, message-valid, line-valid, made-valid, slot-fine}
 
@@ -98,7 +98,7 @@ start-same : (old : Port) (l : Line) (s : Settings) (m : Measurement) (r : Refus
     (startOf old l s m .port ≡ old) × (startOf old l s m .line ≡ l)
 unfolding startOf
 start-same old l s m r =
-    by-started (λ (x : Started). x .verdict ≡ Refused r → (x .port ≡ old) × (x .line ≡ l)) (startVerdict s m) (started s m) old l
+    by-started (λ (x : Started). x .verdict ≡ Refused r → (x .port ≡ old) × (x .line ≡ l)) (startVerdict s m) (startedPort s m) old l
     (λ d e. never (cc))
     (λ x y e. (refl, refl))
 
@@ -118,10 +118,10 @@ unit-ok : (l : ℕ) → isUnit (unitOf l) ≡ true
 unfolding unitOf
 unit-ok l = by (λ (u : ℕ). isUnit u ≡ true) (eqb l 73 || eqb l 66) 73 77 (λ y. refl) (λ n. refl)
 
-started-valid : (s : Settings) (m : Measurement) → eqb (settingsLowest s) 0 ≡ true → measurementVerdict m ≡ Done → validPort (started s m) ≡ true
+started-valid : (s : Settings) (m : Measurement) → eqb (settingsLowest s) 0 ≡ true → measurementVerdict m ≡ Done → validPort (startedPort s m) ≡ true
 unfolding validSource validModes validMessage
 started-valid s m a b =
-    made-valid (started s m)
+    made-valid (startedPort s m)
     (and-both a (and-both (ap isDone b) (and-both {b = isUnit (unitOf (s .fixed .letter)) && true} refl (and-both (unit-ok (s .fixed .letter)) refl))))
     refl
     blank-valid
@@ -130,7 +130,7 @@ started-valid s m a b =
 pub leaves-new : LeavesNew
 unfolding startOf
 leaves-new old l s m =
-    by-started (λ (x : Started). x .verdict ≡ Done → (x .port ≡ started s m) × (x .line ≡ blank)) (startVerdict s m) (started s m) old l
+    by-started (λ (x : Started). x .verdict ≡ Done → (x .port ≡ startedPort s m) × (x .line ≡ blank)) (startVerdict s m) (startedPort s m) old l
     (λ d e. (refl, refl))
     (λ r y e. never (cc))
 
@@ -146,7 +146,7 @@ start-unit = record {
 
 pub start-verdict : (old : Port) (l : Line) (s : Settings) (m : Measurement) → startOf old l s m .verdict ≡ startVerdict s m
 unfolding startOf
-start-verdict old l s m = by-started (λ (x : Started). x .verdict ≡ startVerdict s m) (startVerdict s m) (started s m) old l (λ d. sym d) (λ r y. sym y)
+start-verdict old l s m = by-started (λ (x : Started). x .verdict ≡ startVerdict s m) (startVerdict s m) (startedPort s m) old l (λ d. sym d) (λ r y. sym y)
 
 start-fine : (s : Settings) (m : Measurement) → startVerdict s m ≡ Done → (eqb (settingsLowest s) 0 ≡ true) × (measurementVerdict m ≡ Done)
 unfolding startVerdict

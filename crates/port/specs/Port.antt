@@ -157,13 +157,13 @@ startedWith s m unit message waiting = record {
 }
 
 -- a start leaves < LF CR to be sent, no command waiting, and the unit is by the start-up letter
-abbrev pub started : Settings → Measurement → Port
-started s m = startedWith s m (unitOf (s .fixed .letter)) (unsent greeting) nobody
+abbrev pub startedPort : Settings → Measurement → Port
+startedPort s m = startedWith s m (unitOf (s .fixed .letter)) (unsent greeting) nobody
 
 -- before the first start: zeros for settings and measurement, which no entry but a start takes
 abbrev pub unstarted : Port
 unstarted =
-    started
+    startedPort
     (record { fixed = noFixed; maker = replicate 15 0; «type_name» = replicate 30 0; blur = replicate 32 0 })
     (record { unit = 0; figures = noFigures; temperature = pos 0 })
 
@@ -181,4 +181,4 @@ abbrev pub startedBy : Verdict → Port → Port → Line → Started
 startedBy v new old line = record { verdict = handed v new old .verdict; port = handed v new old .port; line = lineBy v line }
 
 unfoldable pub startOf : Port → Line → Settings → Measurement → Started
-startOf old line s m = startedBy (startVerdict s m) (started s m) old line
+startOf old line s m = startedBy (startVerdict s m) (startedPort s m) old line

@@ -15,17 +15,17 @@ use Rattle.line.specs.declared.Line.{Line}
 use Rattle.line.specs.Line.{blank, ends, validLine}
 use Rattle.port.specs.declared.Port.{Port}
 use Rattle.port.specs.declared.Sent.the-variants as sent
-use Rattle.port.specs.Port.{validPort, slotOf, receiveOf, measureOf, started, startOf}
+use Rattle.port.specs.Port.{validPort, slotOf, receiveOf, measureOf, startedPort, startOf}
 
 -- "A start leaves `<` LF CR to be sent, an empty line, no command waiting": the whole port is new
 abbrev pub LeavesNew : Type 0
 LeavesNew = (old : Port) (l : Line) (s : Settings) (m : Measurement) → startOf old l s m .verdict ≡ Done →
-    (startOf old l s m .port ≡ started s m) × (startOf old l s m .line ≡ blank)
+    (startOf old l s m .port ≡ startedPort s m) × (startOf old l s m .line ≡ blank)
 
 -- "unit by the start-up letter (I, B imperial; M, b metric)"
 pub record StartUnit : Type 0 where
-  pub imperial : (s : Settings) (m : Measurement) → (s .fixed .letter ≡ 73) ⊎ (s .fixed .letter ≡ 66) → started s m .source .modes .unit ≡ 73
-  pub metric : (s : Settings) (m : Measurement) → (s .fixed .letter ≡ 77) ⊎ (s .fixed .letter ≡ 98) → started s m .source .modes .unit ≡ 77
+  pub imperial : (s : Settings) (m : Measurement) → (s .fixed .letter ≡ 73) ⊎ (s .fixed .letter ≡ 66) → startedPort s m .source .modes .unit ≡ 73
+  pub metric : (s : Settings) (m : Measurement) → (s .fixed .letter ≡ 77) ⊎ (s .fixed .letter ≡ 98) → startedPort s m .source .modes .unit ≡ 77
 
 -- the cases of a received byte: 16; else 7, at the carriage return of a line that comes while a command waits
 abbrev pub ReceiveCase : Port → Line → ℕ → Refusal → Type 0

@@ -16,7 +16,7 @@ use units::Measurement;
 ghost use mathlib.Core.Path.{_≡_};
 ghost use Prim.Native.Nat.{_<_};
 ghost use Rattle.state.specs.State.{messageLength};
-ghost use Rattle.port.specs.Port.{sendFrom, begunWith, beginsRecord, restOf, actOf, takenOf, handed, unitOf, started, startVerdict, lineBy, nobody, isReply, replyLast};
+ghost use Rattle.port.specs.Port.{sendFrom, begunWith, beginsRecord, restOf, actOf, takenOf, handed, unitOf, startedPort, startVerdict, lineBy, nobody, isReply, replyLast};
 ghost use Rattle.port.specs.Contracts.{SentUpTo, Choose, PortUnstarted, PortIsValid, PortStart, PortReceive, PortSlot, PortMeasure};
 
 pub struct Port {
@@ -252,7 +252,7 @@ fn check_start(settings: Settings, measurement: Measurement) -> Verdict
 
 // < LF CR to be sent, no command waiting, ready, all modes off, film 00, rate number 6.
 fn started_with(settings: Settings, measurement: Measurement) -> Port
-    ensures { λ r. ⌜ r ≡ started settings measurement ⌝ }
+    ensures { λ r. ⌜ r ≡ startedPort settings measurement ⌝ }
 {
     let fixed = settings.fixed;
     let modes = Modes {

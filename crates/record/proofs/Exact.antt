@@ -20,7 +20,7 @@ use Rattle.stop.proofs.Blames.{stop-alone, pair-blames}
 use Rattle.pupil.specs.Pupil.{pupilText, pupilPacked}
 use Rattle.pupil.proofs.Exact.{text-alone as pupil-text, packed-alone as pupil-packed}
 use Rattle.record.specs.Record.{topDistance, frontLowest, middleLowest, backLowest, figuresLowest, recordLowest}
-use Rattle.record.specs.Forms.{Front, frontText, middleText, backBy, backText, zoomText, frontPacked, middlePacked, backPacked, serial, recordOf, partsOf, textLength, packedLength, textForm, packedForm}
+use Rattle.record.specs.Forms.{Front, frontText, middleText, backBy, backText, zoomText, frontPacked, middlePacked, backPacked, serial, ofParts, partsOf, textLength, packedLength, textForm, packedForm}
 use Rattle.record.specs.Places.{textPlaces, packedPlaces}
 use Rattle.record.specs.declared.Record.{Record}
 
@@ -82,13 +82,13 @@ serial-blames = alone-blames _ 11 (tagged-alone 83 12 _ (text-alone 11 9))
 pub text-form-blames : Blames textForm 0 textPlaces
 unfolding textForm textPlaces frontText middleText backText stop pointed pupilText
 text-form-blames =
-    iso-blames recordOf partsOf _ (λ p. refl) (λ r. refl) 0 _
+    iso-blames ofParts partsOf _ (λ p. refl) (λ r. refl) 0 _
     (⊗-blames _ _ 0 _ _ (⊗-blames _ _ 0 _ _ front-text (⊗-blames _ _ 4 _ _ middle-text back-text)) serial-blames)
 
 pub packed-form-blames : Blames packedForm 0 packedPlaces
 unfolding packedForm packedPlaces frontPacked middlePacked backPacked pair pupilPacked
 packed-form-blames =
-    iso-blames recordOf partsOf _ (λ p. refl) (λ r. refl) 0 _
+    iso-blames ofParts partsOf _ (λ p. refl) (λ r. refl) 0 _
     (⊗-blames _ _ 0 _ _ (⊗-blames _ _ 0 _ _ front-packed (⊗-blames _ _ 4 _ _ middle-packed back-packed)) serial-blames)
 
 pub text-form-exact : Exact textForm

@@ -15,7 +15,7 @@ use Rattle.stop.specs.Stop.{stopOk, stop, pair}
 use Rattle.pupil.specs.Pupil.{pupilOk, pupilText, pupilPacked}
 use Rattle.record.specs.Record.{topDistance, topPupil, frontLowest, middleLowest, backLowest, figuresLowest, recordLowest, noFigures}
 use Rattle.record.specs.Places.{textPlaces, packedPlaces}
-use Rattle.record.specs.Forms.{Front, Middle, Groups, frontText, middleText, backText, viewText, zoomText, frontPacked, middlePacked, backPacked, serial, groupsOf, recordOf, partsOf, pupilOf, textForm, packedForm}
+use Rattle.record.specs.Forms.{Front, Middle, Groups, frontText, middleText, backText, viewText, zoomText, frontPacked, middlePacked, backPacked, serial, groupsOf, ofParts, partsOf, pupilOf, textForm, packedForm}
 use Rattle.record.specs.declared.Figures.{Figures}
 use Rattle.record.specs.declared.Record.{Record}
 use Rattle.record.proofs.Exact.{front-text-long}
@@ -76,7 +76,7 @@ module _ (front : Codec Front) (middle : Codec Middle) (view : Codec ℕ) (pupil
 
     form-at : (places : List Place) (at : ℕ) → ((p : Groups) → length (beforePupil p) ≡ at) →
         ((s : List ℕ) → fieldOf places 10 s ≡ take (pupil .width) (drop at s)) → ((y : ℤ) → pupil .lowest y ≡ failing (pupilOk y) 10) →
-        PupilAt (viaIso recordOf partsOf ((front ⊗ (middle ⊗ (view ⊗ (pupil ⊗ zoom)))) ⊗ serial)) recordLowest pupilOf pupil places at
+        PupilAt (viaIso ofParts partsOf ((front ⊗ (middle ⊗ (view ⊗ (pupil ⊗ zoom)))) ⊗ serial)) recordLowest pupilOf pupil places at
     unfolding serial
     form-at places at long field low = record {
       before = λ r. beforePupil (groupsOf (r .figures));

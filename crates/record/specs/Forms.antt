@@ -100,8 +100,8 @@ figuresOf p = record {
 abbrev pub groupsOf : Figures → Groups
 groupsOf f = (frontOf f, (middleOf f, backOf f))
 
-abbrev pub recordOf : Parts → Record
-recordOf p = record { figures = figuresOf (p .0); serial = p .1 }
+abbrev pub ofParts : Parts → Record
+ofParts p = record { figures = figuresOf (p .0); serial = p .1 }
 
 abbrev pub withSerial : Figures → List ℕ → Record
 withSerial f s = record { figures = f; serial = s }
@@ -128,8 +128,8 @@ tenLength = 59
 
 -- a record's contents as text
 unfoldable pub textForm : Codec Record
-textForm = viaIso recordOf partsOf ((frontText ⊗ (middleText ⊗ backText)) ⊗ serial)
+textForm = viaIso ofParts partsOf ((frontText ⊗ (middleText ⊗ backText)) ⊗ serial)
 
 -- a record's contents packed
 unfoldable pub packedForm : Codec Record
-packedForm = viaIso recordOf partsOf ((frontPacked ⊗ (middlePacked ⊗ backPacked)) ⊗ serial)
+packedForm = viaIso ofParts partsOf ((frontPacked ⊗ (middlePacked ⊗ backPacked)) ⊗ serial)

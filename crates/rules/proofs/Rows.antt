@@ -19,7 +19,7 @@ use Rattle.state.specs.declared.Sending.{Sending}
 use Rattle.state.specs.declared.Source.{Source}
 use Rattle.units.specs.Measurement.{degrees}
 use Rattle.units.proofs.Degrees.{degrees-mild, degrees-cold, degrees-hot}
-use Rattle.rules.specs.Does.{withModes, relettered, replies, silent, runs, recordIs, isN, readies, doesIn, does, countsIn, counts, recordMessage}
+use Rattle.rules.specs.Does.{withModes, relettered, replies, silent, runs, recordIs, isN, readies, doesIn, does, countsIn, counts, recordMessage, isOn}
 use Rattle.rules.specs.Lens.{lens, measured}
 use Rattle.rules.specs.Rows.{Untouched, others, Rows}
 
@@ -93,9 +93,10 @@ stay s Y = refl
 stay s Unknown = told (s .modes .inhibit) (λ e. rw e) (λ e. rw e)
 
 pub rows : (s : Source) → Rows s
-unfolding ends relettered digits replies silent runs recordIs isN readies doesIn counts countsIn measured recordMessage xorFrom sumOf ending
+unfolding ends relettered digits replies silent runs recordIs isN readies doesIn counts countsIn measured recordMessage isOn xorFrom sumOf ending
 rows s = record {
   ends-at-cr = λ l b. (λ e. eqb-true b CR e, λ e. eq-eqb b CR e);
+  start-greets = refl;
   start-ready = λ u. refl;
   start-off = λ u. (refl, (refl, refl));
   start-film = λ u. refl;
@@ -156,6 +157,9 @@ rows s = record {
   mild = λ n h e. p-sends s e (degrees-mild (pos n) refl h);
   cold = λ n e. p-sends s e (degrees-cold (negsuc n) refl);
   hot = λ n h e. p-sends s e (degrees-hot (pos n) refl h);
+  text-on = ap isOn;
+  packed-on = ap isOn;
+  stays-off = ap isOn;
   text-record = λ e. rw e;
   packed-record = λ e. rw e;
   uncounted = λ l e n. ap (λ (k : State). countsIn k l) e ∙ not-n (commandOf l) n;

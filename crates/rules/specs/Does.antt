@@ -80,7 +80,7 @@ letteredWith l s = record { fixed = fixedWith l (s .fixed); maker = s .maker; «
 abbrev pub letterNow : ℕ → Settings → Settings
 letterNow to s = letteredWith (relettered to (s .fixed .letter)) s
 
--- the display unit, and the start-up letter turned
+-- the display unit, and the start-up letter
 abbrev pub unitWith : ℕ → ℕ → Source → Source
 unitWith u to s = record { settings = letterNow to (s .settings); measurement = s .measurement; modes = unitNow u (s .modes) }
 

@@ -23,7 +23,7 @@ use Rattle.state.specs.declared.State.the-variants.{Ready, Running}
 use Rattle.state.specs.declared.Sending.{Sending}
 use Rattle.state.specs.declared.Sending.the-variants as sending
 use Rattle.state.specs.declared.Source.{Source}
-use Rattle.rules.specs.Does.{runs, readies, counts, recordMessage}
+use Rattle.rules.specs.Does.{runs, readies}
 use Rattle.rules.specs.Lens.{startModes, measurement, lens}
 
 -- what no switch touches
@@ -72,7 +72,8 @@ module _ (s : Source) where
     -- ---- the lens
     -- a carriage return ends a line, and no other byte does
     pub ends-at-cr : (l : Line) (b : ℕ) → (lens .ends l b ≡ true) ↔ (b ≡ 13)
-    -- a start leaves it ready, all modes off, film 00, rate number 6
+    -- a start leaves < to be sent, and it ready, all modes off, film 00, rate number 6
+    pub start-greets : lens .greeting ≡ 0x3C ∷ 0x0A ∷ 0x0D ∷ []
     pub start-ready : (u : ℕ) → startModes u .state ≡ Ready
     pub start-off : (u : ℕ) → (startModes u .sending ≡ sending.Off) × ((startModes u .checksum ≡ false) × (startModes u .inhibit ≡ false))
     pub start-film : (u : ℕ) → startModes u .film ≡ 0
@@ -150,10 +151,14 @@ module _ (s : Source) where
     pub cold : (n : ℕ) → s .measurement .temperature ≡ negsuc n → runs s P .reply ≡ said (0x50 ∷ 0x46 ∷ 0x46 ∷ [])
     pub hot : (n : ℕ) → 99 < n → s .measurement .temperature ≡ pos n → runs s P .reply ≡ said (0x50 ∷ 0x39 ∷ 0x39 ∷ [])
     -- ---- records, and what counts
-    -- the record that continuous sending starts
-    pub text-record : s .modes .sending ≡ sending.Text → recordMessage s ≡ textNow
-    pub packed-record : s .modes .sending ≡ sending.Packed → recordMessage s ≡ packedNow
+    -- continuous sending is on where it is text or packed, and where it is off it is not
+    pub text-on : s .modes .sending ≡ sending.Text → lens .continuous s ≡ true
+    pub packed-on : s .modes .sending ≡ sending.Packed → lens .continuous s ≡ true
+    pub stays-off : s .modes .sending ≡ sending.Off → lens .continuous s ≡ false
+    -- the record that it starts
+    pub text-record : s .modes .sending ≡ sending.Text → lens .recordOf s ≡ textNow
+    pub packed-record : s .modes .sending ≡ sending.Packed → lens .recordOf s ≡ packedNow
     -- "`<` counts as neither record nor reply sent last. A record that answers D or Kd counts as a reply": so does each reply but `<`
-    pub uncounted : (l : Line) → s .modes .state ≡ Ready → commandOf l ≢ N → counts s l ≡ false
-    pub waking-counts : (l : Line) → s .modes .state ≡ Ready → commandOf l ≡ N → counts s l ≡ true
-    pub running-counts : (l : Line) → s .modes .state ≡ Running → counts s l ≡ true
+    pub uncounted : (l : Line) → s .modes .state ≡ Ready → commandOf l ≢ N → lens .counts s l ≡ false
+    pub waking-counts : (l : Line) → s .modes .state ≡ Ready → commandOf l ≡ N → lens .counts s l ≡ true
+    pub running-counts : (l : Line) → s .modes .state ≡ Running → lens .counts s l ≡ true

@@ -28,7 +28,7 @@ use Rattle.line.proofs.Laws.{blank-valid}
 use Rattle.rules.specs.Tight.{bench}
 use Rattle.rules.proofs.Tight.{tight}
 use Rattle.rules.proofs.Valid.{Valid, valid-told}
-use Rattle.port.specs.Port.{unstarted, started, validPort, unitOf}
+use Rattle.port.specs.Port.{unstarted, startedPort, validPort, unitOf}
 use Rattle.port.proofs.Promises.{leaves-new, start-verdict, kept-valid, refused-same}
 use Rattle.port.proofs.Cases.{good-settings, by-case}
 use Rattle.telling.specs.Telling.{startWith, validRun}
@@ -96,7 +96,7 @@ module _ (l : ℕ) where
       })
 
   pub start-is : startWith l .verdict ≡ Done →
-      startWith l .run ≡ record { port = started (benchSettings l) benchMeasurement; line = blank; slots = 0; stopped = false }
+      startWith l .run ≡ record { port = startedPort (benchSettings l) benchMeasurement; line = blank; slots = 0; stopped = false }
   unfolding startWith
   start-is d =
       let n = leaves-new unstarted blank (benchSettings l) benchMeasurement d in

@@ -14,7 +14,7 @@ use Rattle.units.specs.declared.Measurement.{Measurement}
 use Rattle.laws.specs.Over.{over}
 use Rattle.bench_lens.specs.Bench.{benchSettings, benchMeasurement}
 use Rattle.line.specs.Line.{blank, validLine}
-use Rattle.port.specs.Port.{validPort, receiveOf, measureOf, started}
+use Rattle.port.specs.Port.{validPort, receiveOf, measureOf, startedPort}
 use Rattle.capture.specs.declared.Event.{Event}
 use Rattle.capture.specs.declared.Event.the-variants.{Received, Slots, Measured, Other}
 use Rattle.printed.specs.Printed.{slotsText, refusedText, slotsLine}
@@ -59,7 +59,7 @@ pub record EachCall : Type 0 where
   pub start-valid : (letter : ℕ) → startWith letter .verdict ≡ Done → validRun (startWith letter .run) ≡ true
   -- and it is the session program's
   pub start-is : (letter : ℕ) → startWith letter .verdict ≡ Done →
-      startWith letter .run ≡ record { port = started (benchSettings letter) benchMeasurement; line = blank; slots = 0; stopped = false }
+      startWith letter .run ≡ record { port = startedPort (benchSettings letter) benchMeasurement; line = blank; slots = 0; stopped = false }
   -- a refused start leaves a run that is none
   pub start-none : (letter : ℕ) (x : Refusal) → startWith letter .verdict ≡ Refused x → validRun (startWith letter .run) ≡ false
   -- 16 exactly for a port, a line or a count of slots that is none of ours

@@ -113,6 +113,7 @@ promised = record {
   straight-reads-and-writes = λ m checksum out read w after. then-written checksum m out read w after;
   record-reads-and-writes = λ m checksum out read w after. then-written checksum m out read w after;
   says = says;
+  as-the-writer = λ r checksum out w w′ after after′ p q. one-outcome p q;
   minus-turns = λ checksum r h z. turned-read checksum _ (demand2 .packed-zero .accepts checksum _ r .1 (h, inr (z, refl)));
   comes-plus = comes-plus;
   never-minus = never-minus;

@@ -30,7 +30,7 @@ use Rattle.text_writer.specs.Contracts.{WriteText}
 use Rattle.packed_reader.specs.Contracts.{ReadPacked}
 use Rattle.packed_bytes.specs.Bytes.{packedRecord}
 use Rattle.transfer.specs.Transfer.{turned, turnedLength}
-use Rattle.transfer.specs.Contracts.{ByRecord, PackedToText}
+use Rattle.transfer.specs.Contracts.{ByRecord, PackedToText, RecordToText}
 
 -- "Reading into a record and writing it again": what follows a reader's answer, the same refusal with nothing written, or a call of the writer
 abbrev pub AfterVerdict : Verdict → Record → Bool → List ℕ → Wrote → List ℕ → Type 0
@@ -58,6 +58,9 @@ pub record Promised : Type 0 where
       ByRecord m checksum out w after ↔ ThenWritten read checksum out w after
   -- what the straight route takes its fields from: of a message that the reader accepts, the bytes say the record that it reads
   pub says : (checksum : Bool) (m : List ℕ) (r : Record) → readOf packedForm checksum m ≡ accepted r → packedRecord (take packedLength m) ≡ r
+  -- a host's record is written as the writer of text writes it: two calls, one of each, have one answer and leave the same bytes
+  pub as-the-writer : (r : Record) (checksum : Bool) (out : List ℕ) (w w′ : Wrote) (after after′ : List ℕ) →
+      RecordToText r checksum out w after → WriteText r checksum out w′ after′ → (w ≡ w′) × (after ≡ after′)
   -- "60 40 comes out +000": it is turned like 40 40,
   pub minus-turns : (checksum : Bool) (r : Record) → recordLowest r ≡ 0 → pupilOf r ≡ pos 0 →
       turned checksum (framed checksum (over (packedForm .print r) 25 minusPacked)) ≡ accepted (messageOf textForm checksum r)

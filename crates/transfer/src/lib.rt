@@ -1,5 +1,5 @@
 // Packed records as text, for the transfer station: straight from packed bytes to text bytes, and by way of a record.
-// Both routes promise the same. The straight one looks first whether the reader accepts, and asks it why only where it does not.
+// Both routes promise the same. A host's record is written as text by the straight one too. The straight one looks first whether the reader accepts, and asks it why only where it does not.
 use frame::Wrote;
 use record::PACKED_LENGTH;
 use record::Record;
@@ -69,7 +69,7 @@ pub fn packed_to_text(m: &[u8], checksum: bool, out: &mut [u8]) -> Wrote
     put_message(out, &m[0..PACKED_LENGTH], checksum)
 }
 
-// Writes a record as text by way of its packed bytes, which is what text_writer::write_text writes without a divider.
+// Writes a record as text by way of its packed bytes: the text writer's message, with the digits of a host, which may divide.
 pub fn record_to_text(r: Record, checksum: bool, out: &mut [u8]) -> Wrote
     ensures { λ w. ⌜ RecordToText r checksum (now (out .entry)) w (now (out .exit)) ⌝ }
 {

@@ -29,7 +29,7 @@ use Rattle.port.specs.Port.{validPort, slotOf, receiveOf}
 use Rattle.port.proofs.Valid.{slot-fine}
 use Rattle.port.proofs.Cases.{judged-measure}
 use Rattle.fill.specs.declared.Filled.{Filled}
-use Rattle.fill.specs.Fill.{Run, thenRun, runOf, fillOf}
+use Rattle.fill.specs.Fill.{SlotRun, thenRun, runOf, fillOf}
 use Rattle.walk.specs.View.{view, bytesOf}
 use Rattle.walk.specs.Calls.{Held, viewOf, ranBy, ran}
 use Rattle.walk.specs.Answers.{verdictOf, Answers}
@@ -118,7 +118,7 @@ record Told (n count slots : ℕ) : Type 0 where
   full : count ≡ n → slots ≡ count
   short : count < n → slots ≡ suc count
 
-goes-on : (t : Sent) (q : Port) (r : Run) (n k : ℕ) → Told n (length (r .bytes)) k → Told (suc n) (length (thenRun t q r .bytes)) (ranBy t k)
+goes-on : (t : Sent) (q : Port) (r : SlotRun) (n k : ℕ) → Told n (length (r .bytes)) k → Told (suc n) (length (thenRun t q r .bytes)) (ranBy t k)
 goes-on (sent.Byte b) q r n k e = record { full = λ x. ap suc (e .full (omega arith)); short = λ x. ap suc (e .short (omega arith)) }
 goes-on sent.Idle q r n k e = record { full = λ x. absurd (omega arith); short = λ x. refl }
 goes-on (sent.Refused z) q r n k e = record { full = λ x. absurd (omega arith); short = λ x. refl }

@@ -29,10 +29,10 @@ use Rattle.port.specs.declared.Handed.{Handed}
 use Rattle.port.specs.declared.Received.{Received}
 use Rattle.port.specs.declared.Sent.{Sent}
 use Rattle.port.specs.declared.Sent.the-variants as sent
-use Rattle.port.specs.Port.{validPort, slotOf, takenOf, receiveOf, measuredPort, measureOf, started, startOf}
+use Rattle.port.specs.Port.{validPort, slotOf, takenOf, receiveOf, measuredPort, measureOf, startedPort, startOf}
 use Rattle.port.proofs.Valid.{source-valid}
 use Rattle.port.proofs.Promises.{by-handed, leaves-new, kept-valid}
-use Rattle.fill.specs.Fill.{Run, thenRun, runOf, fillOf}
+use Rattle.fill.specs.Fill.{SlotRun, thenRun, runOf, fillOf}
 use Rattle.fill.specs.declared.Filled.{Filled}
 use Rattle.walk.specs.View.{bytesOf}
 use Rattle.walk.specs.Walk.{Sound}
@@ -74,12 +74,12 @@ slots-follow (suc k) h s l =
     then f (slots-follow k (after h slots-once) (f .sound) (f .line))
 
 -- a run of k slots from h leaves this port and these bytes
-pub record Runs (h : Held) (k : ℕ) (r : Run) : Type 0 where
+pub record Runs (h : Held) (k : ℕ) (r : SlotRun) : Type 0 where
   pub state : afterAll h (replicate k slots-once) ≡ record { port = r .port; line = h .line }
   pub sends : bytesAll h (replicate k slots-once) ≡ r .bytes
 
 -- after a slot that sent t: the run goes on, or it ends there
-goes-on : (h : Held) (t : Sent) (k : ℕ) (r : Run) → slotOf (h .port) .sent ≡ t → Runs (after h slots-once) k r → Runs h (ranBy t k) (thenRun t (slotOf (h .port) .port) r)
+goes-on : (h : Held) (t : Sent) (k : ℕ) (r : SlotRun) → slotOf (h .port) .sent ≡ t → Runs (after h slots-once) k r → Runs h (ranBy t k) (thenRun t (slotOf (h .port) .port) r)
 unfolding afterAll bytesAll
 goes-on h (sent.Byte b) k r e f = record { state = f .state; sends = ap₂ (λ (x y : List ℕ). x ++ y) (ap bytesOf e) (f .sends) }
 goes-on h sent.Idle k r e f = record { state = refl; sends = ap (λ (x : Sent). bytesOf x ++ []) e }
@@ -163,10 +163,10 @@ start-sound old l s m e =
 start-line : (old : Port) (l : Line) (s : Settings) (m : Measurement) → startOf old l s m .verdict ≡ Done → validLine (startOf old l s m .line) ≡ true
 start-line old l s m e = subst (λ (x : Line). validLine x ≡ true) (sym (leaves-new old l s m e .1)) blank-valid
 
-started-good : (old : Port) (l : Line) (s : Settings) (m : Measurement) → startOf old l s m .verdict ≡ Done → Good (started s m .source)
+started-good : (old : Port) (l : Line) (s : Settings) (m : Measurement) → startOf old l s m .verdict ≡ Done → Good (startedPort s m .source)
 unfolding isOn
 started-good old l s m e = record {
-  valid = source-valid (started s m) (subst (λ (p : Port). validPort p ≡ true) (leaves-new old l s m e .0) (kept-valid .start old l s m e));
+  valid = source-valid (startedPort s m) (subst (λ (p : Port). validPort p ≡ true) (leaves-new old l s m e .0) (kept-valid .start old l s m e));
   ready-off = λ r. refl;
 }
 
@@ -179,7 +179,7 @@ pub of-the-port : OfThePort
 of-the-port = record {
   states = λ old l s m cs e. started-follows old l s m cs e .state ∙ ap (λ (x : State lens). run x (eventsAll (begun old l s m) cs)) (walks .start-walks old l s m e);
   sends = λ old l s m cs e. started-follows old l s m cs e .sends ∙ ap (λ (x : State lens). sent x (eventsAll (begun old l s m) cs)) (walks .start-walks old l s m e);
-  demand3 = λ old l s m e. demand3 (started s m .source) (started-good old l s m e);
+  demand3 = λ old l s m e. demand3 (startedPort s m .source) (started-good old l s m e);
 }
 
 -- what the driver holds from a start, as the machine sees it, and what is promised of it
@@ -197,7 +197,7 @@ reached f =
     let g = started-follows (f .old) (f .old-line) (f .settings) m (f .calls) (f .accepted) in
     subst Reached (sym (f .held))
     (record {
-      source = started (f .settings) m .source;
+      source = startedPort (f .settings) m .source;
       before = eventsAll (begun (f .old) (f .old-line) (f .settings) m) (f .calls);
       state = of-the-port .states (f .old) (f .old-line) (f .settings) m (f .calls) (f .accepted);
       sound = g .sound;

@@ -23,7 +23,7 @@ use Rattle.state.proofs.Laws.{zeros-long}
 use Rattle.rules.specs.Lens.{measurement, measured, lens, greeting}
 use Rattle.port.specs.declared.Port.{Port}
 use Rattle.port.specs.declared.Received.{Received}
-use Rattle.port.specs.Port.{takenPort, takenOf, receiveOf, handed, measuredPort, measureOf, started, startOf}
+use Rattle.port.specs.Port.{takenPort, takenOf, receiveOf, handed, measuredPort, measureOf, startedPort, startOf}
 use Rattle.port.proofs.Valid.{slot-fine}
 use Rattle.port.proofs.Promises.{leaves-new}
 use Rattle.walk.specs.View.{kindOf, waitsOf, leftOf, view}
@@ -32,14 +32,14 @@ use Rattle.walk.proofs.Slot.{slot-alike}
 
 -- ---- a start
 
-started-view : (s : Settings) (m : Measurement) → view (started s m) blank ≡ start lens (started s m .source)
+started-view : (s : Settings) (m : Measurement) → view (startedPort s m) blank ≡ start lens (startedPort s m .source)
 unfolding view
 started-view s m =
     let z = zeros-long in
-    ap (λ (u : List ℕ). port (started s m .source) none u neither blank) (take-over zeros greeting (length greeting) refl (omega arith))
+    ap (λ (u : List ℕ). port (startedPort s m .source) none u neither blank) (take-over zeros greeting (length greeting) refl (omega arith))
 
 start-walks : (old : Port) (l : Line) (s : Settings) (m : Measurement) → startOf old l s m .verdict ≡ Done →
-    view (startOf old l s m .port) (startOf old l s m .line) ≡ start lens (started s m .source)
+    view (startOf old l s m .port) (startOf old l s m .line) ≡ start lens (startedPort s m .source)
 start-walks old l s m e =
     let n = leaves-new old l s m e in
     ap₂ view (n .0) (n .1) ∙ started-view s m

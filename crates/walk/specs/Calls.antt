@@ -15,7 +15,7 @@ use Rattle.rules.specs.Promise.{actBy, replyBy, recordBy}
 use Rattle.port.specs.declared.Port.{Port}
 use Rattle.port.specs.declared.Sent.{Sent}
 use Rattle.port.specs.declared.Sent.the-variants as sent
-use Rattle.port.specs.Port.{slotOf, receiveOf, measureOf, started, startOf}
+use Rattle.port.specs.Port.{slotOf, receiveOf, measureOf, startedPort, startOf}
 use Rattle.fill.specs.Fill.{runOf, fillOf}
 use Rattle.walk.specs.View.{view, bytesOf}
 
@@ -96,11 +96,11 @@ pub record OfThePort : Type 0 where
   -- the states of the port, call by call, are those of the machine from its start
   pub states : (old : Port) (l : Line) (s : Settings) (m : Measurement) (cs : List Call) → startOf old l s m .verdict ≡ Done →
       let h = begun old l s m in
-      view (afterAll h cs .port) (afterAll h cs .line) ≡ run (start lens (started s m .source)) (eventsAll h cs)
+      view (afterAll h cs .port) (afterAll h cs .line) ≡ run (start lens (startedPort s m .source)) (eventsAll h cs)
   -- and the bytes sent are the machine's
   pub sends : (old : Port) (l : Line) (s : Settings) (m : Measurement) (cs : List Call) → startOf old l s m .verdict ≡ Done →
       let h = begun old l s m in
-      bytesAll h cs ≡ sent (start lens (started s m .source)) (eventsAll h cs)
+      bytesAll h cs ≡ sent (start lens (startedPort s m .source)) (eventsAll h cs)
   -- of which demand 3 is proved: 156, 233 and 79
   pub demand3 : (old : Port) (l : Line) (s : Settings) (m : Measurement) → startOf old l s m .verdict ≡ Done →
-      Promised lens actBy replyBy recordBy (started s m .source)
+      Promised lens actBy replyBy recordBy (startedPort s m .source)

@@ -12,7 +12,7 @@ use Rattle.line.specs.Line.{validLine}
 use Rattle.state.specs.State.{messageLength}
 use Rattle.rules.specs.Lens.{measurement, lens}
 use Rattle.port.specs.declared.Port.{Port}
-use Rattle.port.specs.Port.{validPort, slotOf, receiveOf, measureOf, started, startOf}
+use Rattle.port.specs.Port.{validPort, slotOf, receiveOf, measureOf, startedPort, startOf}
 use Rattle.walk.specs.View.{view, bytesOf}
 
 -- a valid port whose buffer is as long as its type says
@@ -23,7 +23,7 @@ pub record Sound (p : Port) : Type 0 where
 pub record Walks : Type 0 where
   -- an accepted start is the machine's start
   pub start-walks : (old : Port) (l : Line) (s : Settings) (m : Measurement) → startOf old l s m .verdict ≡ Done →
-      view (startOf old l s m .port) (startOf old l s m .line) ≡ start lens (started s m .source)
+      view (startOf old l s m .port) (startOf old l s m .line) ≡ start lens (startedPort s m .source)
   -- a slot leaves the machine's next state, and sends its bytes
   pub slot-walks : (p : Port) (l : Line) → Sound p → view (slotOf p .port) l ≡ next (view p l) slot
   pub slot-sends : (p : Port) (l : Line) → Sound p → bytesOf (slotOf p .sent) ≡ sentIn (shows (view p l) slot)

@@ -6,7 +6,7 @@ use Rattle.refusal.specs.Answer.{Answer}
 use Rattle.recorder.specs.Recorder.{takeOf}
 use Rattle.recorder.specs.declared.Recorded.{Recorded}
 use Rattle.hourheron.specs.Host.{answerOf}
-use Rattle.hourheron.specs.Takes.{takeWith, takenIn, takenLeft}
+use Rattle.hourheron.specs.Takes.{takeWith, takeIn, takeLeft}
 use Rattle.hourheron.specs.declared.Answer as host
 use Rattle.hourheron.proofs.Takes.{taken-in, taken-left}
 use Rattle.hourheron.proofs.heron_recorder_take_value.Statement.{statement}
@@ -32,9 +32,9 @@ returns c =
     record {
       answers =
           ap (λ (x : host.Answer). takeWith x (t .take .result)) (e .answers)
-          ∙ ap (λ (x : Recorded). takeWith (answerOf (takenIn x out)) x) is
+          ∙ ap (λ (x : Recorded). takeWith (answerOf (takeIn x out)) x) is
           ∙ ap (λ (x : Answer ℕ). takeWith (answerOf x) (takeOf (a .recorder) (a .piece .now))) (taken-in (a .recorder) out (a .piece .now));
-      leaves = e .leaves ∙ ap (λ (x : Recorded). takenLeft x out) is ∙ taken-left (a .recorder) out (a .piece .now);
+      leaves = e .leaves ∙ ap (λ (x : Recorded). takeLeft x out) is ∙ taken-left (a .recorder) out (a .piece .now);
     }
 
 pub heron-recorder-take-value-spec : {M : Type 1} → statement M

@@ -1,7 +1,7 @@
 -- `hourheron::lay_taken` meets its contract: its test is that of the definition. Assumes nothing.
 use mathlib.Core.Path.{refl}
 use borrow.Author.Needs.{needs}
-use Rattle.hourheron.specs.Takes.{takenIn, takenLeft}
+use Rattle.hourheron.specs.Takes.{takeIn, takeLeft}
 use Rattle.hourheron.proofs.lay_taken.Statement.{statement}
 use Rattle.hourheron.proofs.lay_taken.Tie as tie
 
@@ -12,7 +12,7 @@ same-length : tie.Need-same-length
 same-length c = search needs
 
 returns : tie.Need-returns
-unfolding takenIn takenLeft
+unfolding takeIn takeLeft
 returns c =
     let l = c .before .before in
     rw (l .before .before .if1 .taken) (l .lay-made .ensures)
@@ -21,7 +21,7 @@ answer-beside-requires : tie.Need-answer-beside-requires
 answer-beside-requires c κs = search needs
 
 returns-2 : tie.Need-returns-2
-unfolding takenIn takenLeft
+unfolding takeIn takeLeft
 returns-2 c = rw (c .before .if1 .left) (record { answers = c .answer-beside .ensures; leaves = refl })
 
 pub lay-taken-spec : {M : Type 1} → statement M
