@@ -13,7 +13,7 @@ use lib.Seq.{take-suc-set}
 use Rattle.laws.proofs.Tests.{and-left, and-right, cond-yes, cond-no, by}
 use Rattle.laws.proofs.Range.{inside, at-least, at-most}
 use Rattle.laws.specs.Within.{within}
-use Rattle.line.specs.Line.{lineLength, joined}
+use Rattle.line.specs.Line.{lineLength, zeros, joined}
 use Rattle.line.specs.Command.{oneByte, afterK, twoBytes, afterKb, filmOf, afterW, threeBytes, commandIn, commandOf, InRange}
 use Rattle.line.specs.Promises.{lettersOf, heldIn, Promised}
 use Rattle.line.specs.declared.Line.{Line}
@@ -158,8 +158,9 @@ unfolding joined
 more l b h = cond-no _ _ (le-ltb (l .len) lineLength h)
 
 pub promised : Promised
-unfolding commandIn oneByte
+unfolding zeros commandIn oneByte
 promised = record {
+  empty = refl;
   known = letters;
   bare-w = refl;
   only = λ s. known-only (spelt s);

@@ -4,8 +4,8 @@ use mathlib.Core.Bool.{true, false}
 use mathlib.Core.List.{List, [], _∷_, _++_}
 use mathlib.Core.Logic.{_⊎_, _≢_}
 use mathlib.Core.Path.{_≡_}
-use lib.ListN.{length, take}
-use Rattle.line.specs.Line.{joined}
+use lib.ListN.{length, replicate, take}
+use Rattle.line.specs.Line.{blank, joined}
 use Rattle.line.specs.Command.{commandIn, commandOf, InRange}
 use Rattle.line.specs.declared.Line.{Line}
 use Rattle.line.specs.declared.Command.{Command}
@@ -37,6 +37,8 @@ abbrev pub heldIn : Line → List ℕ
 heldIn l = take (l .len) (l .bytes)
 
 pub record Promised : Type 0 where
+  -- the empty line, which a driver keeps at first: all zero
+  pub empty : blank ≡ record { bytes = replicate 64 0; len = 0; overlong = false }
   -- the letters of a command are that command, "n 0..7", "nn 00..31"
   pub known : (c : Command) → InRange c → commandIn (lettersOf c) ≡ c
   -- W alone is film 01
