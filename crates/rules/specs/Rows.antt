@@ -72,7 +72,7 @@ module _ (s : Source) where
     -- ---- the lens
     -- a carriage return ends a line, and no other byte does
     pub ends-at-cr : (l : Line) (b : ℕ) → (lens .ends l b ≡ true) ↔ (b ≡ 13)
-    -- a start leaves < to be sent, and it ready, all modes off, film 00, rate number 6
+    -- a start leaves < to be sent, the lens ready, all modes off, film 00, rate number 6
     pub start-greets : lens .greeting ≡ 0x3C ∷ 0x0A ∷ 0x0D ∷ []
     pub start-ready : (u : ℕ) → startModes u .state ≡ Ready
     pub start-off : (u : ℕ) → (startModes u .sending ≡ sending.Off) × ((startModes u .checksum ≡ false) × (startModes u .inhibit ≡ false))
