@@ -14,10 +14,12 @@ use std::io::{Read, Write};
 use std::process::exit;
 
 fn main() -> std::io::Result<()> {
-    let letter = std::env::args().nth(1).and_then(|word| word.bytes().next()).unwrap_or(b'I');
+    let mut words = std::env::args().skip(1).peekable();
+    let ports = words.next_if_eq("ports").is_some();
+    let letter = words.next().and_then(|word| word.bytes().next()).unwrap_or(b'I');
     let mut input = Vec::new();
     std::io::stdin().read_to_end(&mut input)?;
-    let text = replay::replay(letter, &input, &mut ()).unwrap_or_else(|_| {
+    let text = replay::replay(ports, letter, &input, &mut ()).unwrap_or_else(|_| {
         eprintln!("replay: the start-up letter is none of I, M, B, b");
         exit(1)
     });

@@ -28,12 +28,12 @@ fn main() -> std::io::Result<()> {
     let mut sent = [0; MOST_IN_A_TURN];
     let mut byte = [0];
     loop {
-        let count = lens.port.fill(&mut sent);
+        let count = lens.ports[0].fill(&mut lens.settings, &mut sent);
         output.write_all(&sent[..count])?;
         if input.read(&mut byte)? == 0 {
             return Ok(());
         }
         // A line that is dropped is told to nobody.
-        let _ = lens.receive(byte[0]);
+        let _ = lens.receive(0, byte[0]);
     }
 }

@@ -26,7 +26,7 @@
 #include <stdint.h>
 #include <string.h>
 
-#define HOURHERON_VERSION "0.8.0"
+#define HOURHERON_VERSION "0.9.0"
 
 /* ---- lengths in bytes */
 
@@ -64,7 +64,7 @@
 
 /* ---- refusals */
 
-/* The numbers, with what is in `value` beside each. 7 is the port's and 10 the replay's: no function below answers them. */
+/* The numbers, with what is in `value` beside each. 7 and 12 are the ports' and 10 the replay's: no function below answers them. */
 enum heron_refusal {
     HERON_DONE = 0,     /* done: the count or what the function says */
     HERON_FIELD = 1,    /* a field out of range: the lowest one; 0 for a unit letter, 13 for a temperature */
@@ -78,6 +78,7 @@ enum heron_refusal {
     HERON_TOO_LONG = 9, /* a message of a stream longer than a cutter holds */
     HERON_FORM = 10,    /* a line of a capture of other form */
     HERON_LOST = 11,    /* a new line's zoom thousandths do not divide by ten */
+    HERON_NO_PORT = 12, /* a port number that is neither 0 nor 1 */
     HERON_STATE = 16    /* a handed-in state, collector or cutter that is not valid */
 };
 
@@ -97,6 +98,7 @@ static inline const char *heron_refusal_name(uint32_t number)
     case HERON_TOO_LONG: return "message too long";
     case HERON_FORM: return "line of other form";
     case HERON_LOST: return "thousandths lost";
+    case HERON_NO_PORT: return "no such port";
     case HERON_STATE: return "state not valid";
     default: return "no refusal number";
     }

@@ -94,8 +94,8 @@ static void test_names(void)
 {
     static const uint32_t numbers[] = {HERON_DONE,     HERON_FIELD,   HERON_ROOM,    HERON_LENGTH,   HERON_END,  HERON_CHECKSUM,
                                        HERON_CONTENTS, HERON_DROPPED, HERON_SETTING, HERON_TOO_LONG, HERON_FORM, HERON_LOST,
-                                       HERON_STATE};
-    static const uint32_t paper[] = {0, 1, 2, 3, 4, 5, 6, 7, 8, 9, 10, 11, 16};
+                                       HERON_NO_PORT,  HERON_STATE};
+    static const uint32_t paper[] = {0, 1, 2, 3, 4, 5, 6, 7, 8, 9, 10, 11, 12, 16};
     const char *none = heron_refusal_name(UINT32_MAX);
     for (size_t i = 0; i < sizeof paper / sizeof paper[0]; i++) {
         check(numbers[i] == paper[i], "the number of %s is %" PRIu32, heron_refusal_name(paper[i]), numbers[i]);
@@ -104,7 +104,7 @@ static void test_names(void)
             check(strcmp(heron_refusal_name(paper[i]), heron_refusal_name(paper[j])) != 0,
                   "refusals %" PRIu32 " and %" PRIu32 " have one name", paper[i], paper[j]);
     }
-    for (uint32_t n = 12; n < 100000; n++)
+    for (uint32_t n = 13; n < 100000; n++)
         check(n == 16 || strcmp(heron_refusal_name(n), none) == 0, "%" PRIu32 " is no refusal, but has a name", n);
 }
 

@@ -7,6 +7,7 @@ import time
 ROOT = os.path.join(os.path.dirname(os.path.abspath(__file__)), "..", "..")
 PATIENCE = 20.0
 END = b"\n\r"
+FIXED = b"NS4050.0093OBENCH                          LPN050M050UIT95  B4.34" + END
 RECORD = b"D0000798T0680t5.6+5Z0000H0006123N0000711F0000909V027.3E+023z0000S4050.0093" + END
 
 
@@ -19,11 +20,21 @@ def lines_of(name):
         return file.read()
 
 
+def records(came, why):
+    """What comes after the whole records is the start of one; hands that back."""
+    whole, rest = divmod(len(came), len(RECORD))
+    if came != RECORD * whole + RECORD[:rest]:
+        raise Wrong(f"{why}: came other bytes than records: {came[-200:]!r}")
+    return came[len(came) - rest:]
+
+
 class Talk:
     def __init__(self, receives, sends):
         self.receives = receives
         self.sends = sends
+        # answers awaited, and bytes received
         self.exchanges = 0
+        self.count = 0
 
     def send(self, data):
         while data:
@@ -34,9 +45,11 @@ class Talk:
         if not select.select([self.receives], [], [], patience)[0]:
             return b""
         try:
-            return os.read(self.receives, most)
+            came = os.read(self.receives, most)
         except OSError as error:
             raise Wrong(f"the lens is gone: {error}") from error
+        self.count += len(came)
+        return came
 
     def awaits(self, wanted, why):
         """Just these bytes."""
@@ -60,11 +73,14 @@ class Talk:
                 raise Wrong(f"{why}: awaited {wanted!r} within {most} bytes, came {len(came)} that end {came[-200:]!r}")
             came += more
         before, after = came.split(wanted, 1)
-        records, rest = divmod(len(before), len(RECORD))
-        if rest or before != RECORD * records:
-            raise Wrong(f"{why}: before {wanted!r} came other bytes than whole records: {before[-200:]!r}")
+        if records(before, f"{why}: before {wanted!r}"):
+            raise Wrong(f"{why}: {wanted!r} came inside a record: {before[-200:]!r}")
         self.exchanges += 1
         return after
+
+    def records(self, why, came=b""):
+        """What has come are records; hands back what has come of the last."""
+        return records(came + self.come(65536), why)
 
     def quiet(self, why, patience=0.3):
         came = self.come(4096, patience)

@@ -59,11 +59,23 @@ pub struct Pace {
 impl Pace {
     pub fn any(random: &mut Random) -> Pace {
         Pace {
-            commands: random.pick(&[&COMMANDS, &COMMANDS, &[b"D"], &[b"D", b"Kd"], &[b"C", b"Kc", b"N", b"P"]]),
+            commands: random.pick(&[
+                &COMMANDS,
+                &COMMANDS,
+                &[b"D"],
+                &[b"D", b"Kd"],
+                &[b"C", b"Kc", b"N", b"P"],
+                &[b"V", b"W", b"W00", b"Kb0"],
+            ]),
             strays: random.pick(&[2, 8, 1000]),
             slots: random.pick(&[0, 1, 1, 1, 2, 2, 8, 30, 80, 160]),
             mixed: random.flag(),
         }
+    }
+
+    /// The commands that turn the start-up letter or show it, and slots for their replies.
+    pub fn of_letter(random: &mut Random) -> Pace {
+        Pace { commands: &[b"N", b"X", b"Y"], strays: 20, slots: random.pick(&[30, 160]), mixed: random.flag() }
     }
 
     /// A line and its carriage return.

@@ -1,10 +1,10 @@
-//! Captures made at random of right lines: received bytes, slots and measurements, refused ones among them.
+//! Captures made at random of right lines: received bytes, slots and measurements, refused ones among them. They are of one port;
+//! one of both is two of them interleaved.
 
 use crate::camera::{command, Pace, COMMANDS, CR};
 use crate::random::Random;
 use crate::replay::FIELDS_OF_R;
 
-const EVENTS_IN_A_RUN: usize = 20_000;
 pub const LF: u8 = b'\n';
 
 pub struct Capture {
@@ -110,7 +110,8 @@ impl Capture {
                 2 => random.pick(&[101, 109, 249, 251, 65_535, 65_536, 999_999_999, -999_999_999]),
                 3 => numbers[place] + random.pick(&[-65_536, -256, 256, 65_536, 16_777_216]),
                 _ => random.between(-999_999_999, 999_999_999),
-            };
+            }
+            .clamp(-999_999_999, 999_999_999);
         }
         self.measured(unit, numbers.map(|n| n as i32));
     }
@@ -173,11 +174,26 @@ impl Capture {
         }
     }
 
-    /// Parts, each at another pace.
-    pub fn run(&mut self) {
-        while self.events < EVENTS_IN_A_RUN {
-            let pace = Pace::any(&mut self.random);
+    /// Parts, each at another pace, of so many events or more.
+    pub fn run(&mut self, events: usize, pace: fn(&mut Random) -> Pace) {
+        while self.events < events {
+            let pace = pace(&mut self.random);
             self.part(&pace);
+        }
+    }
+
+    /// Continuous sending, so many events or more of it, in which nothing is received.
+    pub fn send(&mut self, events: usize) {
+        for kinds in [&[&b"N"[..]][..], &[b"G", b"Ka"], &[b"C", b"Kc"]] {
+            let line = command(&mut self.random, kinds);
+            self.asked(&line, 80);
+        }
+        while self.events < events {
+            if self.random.below(4) == 0 {
+                self.measure();
+            }
+            let count = self.random.below(200);
+            self.slots(count);
         }
     }
 
@@ -204,12 +220,35 @@ impl Capture {
             self.slots_at_once(some.min(slots - self.slots));
         }
     }
+}
 
-    /// The last line may lack its LF.
-    pub fn ended(mut self) -> Vec<u8> {
-        if self.random.below(4) == 0 && self.text.last() == Some(&LF) {
-            self.text.pop();
+/// A capture of both ports: the lines of one of port 0 and one of port 1 in turns, with their numbers, which port 0's may lack.
+pub fn interleaved(random: &mut Random, captures: [&[u8]; 2]) -> Vec<u8> {
+    let lines = captures.map(|text| text.split_inclusive(|&byte| byte == LF).collect::<Vec<_>>());
+    let mut rest = lines.each_ref().map(|lines| &lines[..]);
+    let most = random.pick(&[1, 3, 100]);
+    let mut text = Vec::new();
+    loop {
+        let left = rest[0].len() + rest[1].len();
+        if left == 0 {
+            return text;
         }
-        self.text
+        let at = usize::from(random.below(left) >= rest[0].len());
+        let (some, after) = rest[at].split_at(rest[at].len().min(1 + random.below(most)));
+        rest[at] = after;
+        for line in some {
+            if at == 1 || random.below(4) > 0 {
+                text.extend([b"0 ", b"1 "][at]);
+            }
+            text.extend(*line);
+        }
     }
+}
+
+/// The last line may lack its LF.
+pub fn ended(random: &mut Random, mut text: Vec<u8>) -> Vec<u8> {
+    if random.below(4) == 0 && text.last() == Some(&LF) {
+        text.pop();
+    }
+    text
 }

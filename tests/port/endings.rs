@@ -1,10 +1,10 @@
 //! Captures about the two ends that a replay has before its input's: the last slot, and a line of another form.
 
-use crate::captures::{Capture, LF};
+use crate::captures::{ended, interleaved, Capture, LF};
 use crate::random::Random;
 use crate::replay::MOST_SLOTS;
 
-/// Lines of another form.
+/// Lines of another form, also where a port number stands before them.
 pub const OF_OTHER_FORM: [&[u8]; 107] = [
     b"", b" ", b"\r", b"\t", b"\0", b"\xFF", b"Q", b"Q 1", b"#", b"R", b"R ", b"R 4", b"R 444", b"R 4 4", b"R 44 44", b"R 4g",
     b"R g4", b"R G0", b"R /0", b"R 0:", b"R @0", b"R 0`", b"R +4", b"R -4", b"R 0x44", b"R44", b"r 44", b"R  44", b" R 44",
@@ -21,6 +21,24 @@ pub const OF_OTHER_FORM: [&[u8]; 107] = [
     b"M 1 2 3 4 5 6 7 8 9 10 11 I I", b"M +1 2 3 4 5 6 7 8 9 10 11 I 12", b"M 1 2 3 4 5 6 7 8 9 10 11 I +12",
     b"M 1 2 3 4 5 6 7 8 9 --10 11 I 12", b"M 1 2 3 4 5 6 7 8 9 - 11 I 12", b"M 1 2 3 4 5 6 7 8 9 -0000000010 11 I 12",
     b"slots 4", b"refused 10",
+];
+
+/// Lines that a port number makes right only with the argument `ports`.
+pub const NUMBERED: [&[u8]; 6] = [
+    b"0 R 41", b"1 R 0d", b"0 S 4", b"1 S 999", b"0 M 1 2 3 4 5 6 7 8 9 10 11 I 12", b"1 M 1 2 3 4 5 6 7 8 9 10 11 Q 12",
+];
+
+/// Lines of another form, by their port number or what stands around it.
+pub const OF_OTHER_NUMBER: [&[u8]; 82] = [
+    b"0", b"1", b"2", b"0 ", b"1 ", b"0  ", b" 0", b" 1 ", b"00", b"0 0", b"0 1", b"1 1", b"0 0 ", b"2 R 41", b"2 S 4", b"3 S 4",
+    b"7 R 41", b"8 R 41", b"9 S 4", b"10 S 4", b"11 S 4", b"12 R 41", b"16 R 41", b"00 R 41", b"01 R 41", b"00 S 4", b"01 S 4",
+    b"000000001 S 4", b"256 R 41", b"257 S 4", b"65536 R 41", b"65537 S 4", b"4294967296 R 41", b"4294967297 S 4",
+    b"18446744073709551616 R 41", b"18446744073709551617 S 4", b"-0 R 41", b"-1 S 4", b"+0 R 41", b"+1 S 4", b"0x0 R 41",
+    b"0x1 S 4", b"0. S 4", b"1: S 4", b"0  R 41", b"1  S 4", b" 0 R 41", b" 1 S 4", b"0 R 41 ", b"1 S 4 ", b"0R 41", b"1S 4",
+    b"0\tR 41", b"1\tS 4", b"0\rR 41", b"0\0R 41", b"\t0 S 4", b"0 \tS 4", b"1\xA0S 4", b"0 R 41\r", b"1 S 4\r", b"0 0 R 41",
+    b"0 1 S 4", b"1 0 R 41", b"1 1 S 4", b"R 0 41", b"R 41 0", b"S 0 4", b"S 1 4", b"S 4 1", b"/ R 41", b": S 4", b"@ S 4",
+    b"O R 41", b"l S 4", b"I S 4", b"\0 R 41", b"\x01 S 4", b"\xB0 R 41", b"\xB1 S 4", b"0 M 0 1 2 3 4 5 6 7 8 9 10 11 I 12",
+    b"M 1 1 2 3 4 5 6 7 8 9 10 11 I 12",
 ];
 
 /// Words that are wrong in most places of a line.
@@ -113,49 +131,92 @@ fn change_bytes(random: &mut Random, text: &mut Vec<u8>) {
     }
 }
 
-/// A short capture with damage: bytes of it, its end, or a line among its lines.
-pub fn damaged(seed: u64, number: usize) -> Vec<u8> {
-    let mut capture = Capture::new(seed);
+/// A few right lines of one port.
+fn short(random: &mut Random) -> Vec<u8> {
+    let mut capture = Capture::new(random.next());
     capture.short();
-    let Capture { random, text, .. } = &mut capture;
-    match number % 6 {
-        0 => change_bytes(random, text),
+    capture.text
+}
+
+/// A few right lines of port 0, without a number, or of both ports.
+fn few(ports: bool, random: &mut Random) -> Vec<u8> {
+    let camera = short(random);
+    if !ports {
+        return camera;
+    }
+    let external = short(random);
+    interleaved(random, [&camera, &external])
+}
+
+/// A short capture with damage: bytes of it, its end, or a line among its lines.
+pub fn damaged(ports: bool, seed: u64, number: usize) -> Vec<u8> {
+    let random = &mut Random(seed);
+    let mut text = few(ports, random);
+    let kinds = if ports { 7 } else { 6 };
+    let turn = number / kinds;
+    match number % kinds {
+        0 => change_bytes(random, &mut text),
         1 => text.truncate(random.below(text.len() + 1)),
         kind => {
             let mut line = match kind {
-                2 => OF_OTHER_FORM[number / 6 % OF_OTHER_FORM.len()].to_vec(),
+                2 if !ports && turn < NUMBERED.len() => NUMBERED[turn].to_vec(),
+                2 => OF_OTHER_FORM[turn % OF_OTHER_FORM.len()].to_vec(),
                 3 => spoiled(random),
                 4 => longest(random),
-                _ => overlong(random),
+                5 => overlong(random),
+                _ => OF_OTHER_NUMBER[turn % OF_OTHER_NUMBER.len()].to_vec(),
             };
+            if ports && kind < 6 {
+                line = [random.pick(&[&b"0 "[..], b"1 ", b""]), &line].concat();
+            }
             line.push(LF);
             let mut lines: Vec<&[u8]> = text.split_inclusive(|&byte| byte == LF).collect();
             lines.insert(random.below(lines.len() + 1), &line);
-            *text = lines.concat();
+            text = lines.concat();
         }
     }
-    capture.ended()
+    ended(random, text)
 }
 
-/// The last slot comes at the end of a line, within one, or not; behind it right lines, a wrong one, both or none.
-pub fn at_the_limit(seed: u64, number: usize) -> Vec<u8> {
-    let mut capture = Capture::new(seed);
-    let short_by = match number % 3 {
-        0 => 0,
-        1 => 1,
-        _ => 2 + capture.random.below(997),
+/// So many slots of one port, or no line.
+fn up_to(random: &mut Random, slots: usize) -> Vec<u8> {
+    let mut capture = Capture::new(random.next());
+    if slots > 0 {
+        capture.up_to(slots);
+    }
+    capture.text
+}
+
+/// The last slot comes at the end of a line, within one, or not; behind it right lines, a wrong one, both or none. Of both ports,
+/// that line is either's, and the slots before it are one port's or shared out.
+pub fn at_the_limit(ports: bool, seed: u64, number: usize) -> Vec<u8> {
+    let random = &mut Random(seed);
+    let room = 2 + random.below(997);
+    let asked = match number % 3 {
+        0 => room,
+        1 => room + 1 + random.below(999 - room),
+        _ => room - 1,
     };
-    capture.up_to(MOST_SLOTS - short_by);
-    if short_by > 1 {
-        let past = capture.random.below(999 - short_by);
-        capture.slots_at_once(short_by + 1 + past);
+    let before = MOST_SLOTS - room;
+    let mut text = if ports {
+        let camera = match number / 3 % 3 {
+            0 => before,
+            1 => 0,
+            _ => 80 + random.below(before - 160),
+        };
+        let [camera, external] = [camera, before - camera].map(|slots| up_to(random, slots));
+        let mut text = interleaved(random, [&camera, &external]);
+        text.extend([b"0 ", b"1 "][number % 2]);
+        text
+    } else {
+        up_to(random, before)
+    };
+    text.extend(format!("S {asked}\n").bytes());
+    if random.flag() {
+        text.extend(few(ports, random));
     }
-    if number / 3 % 2 == 1 {
-        capture.short();
+    if random.flag() {
+        text.extend([random.pick(&OF_OTHER_FORM), b"\n"].concat());
     }
-    if number / 6 % 2 == 1 {
-        let line = capture.random.pick(&OF_OTHER_FORM);
-        capture.line(line);
-    }
-    capture.ended()
+    ended(random, text)
 }

@@ -53,10 +53,10 @@ fn command(program: &str) -> Command {
     script
 }
 
-/// Runs a program.
-pub fn output(program: &str, letter: Option<&str>, input: &[u8], random: &mut Random) -> io::Result<Output> {
+/// Runs a program with these arguments.
+pub fn output(program: &str, words: &[&str], input: &[u8], random: &mut Random) -> io::Result<Output> {
     let mut child = command(program)
-        .args(letter)
+        .args(words)
         .stdin(Stdio::piped())
         .stdout(Stdio::piped())
         .stderr(Stdio::piped())
@@ -73,8 +73,8 @@ pub fn output(program: &str, letter: Option<&str>, input: &[u8], random: &mut Ra
 }
 
 /// What a program prints, if it ends well.
-pub fn printed(program: &str, letter: Option<&str>, input: &[u8], random: &mut Random) -> Result<Vec<u8>, String> {
-    let output = output(program, letter, input, random).map_err(|error| format!("{program}: {error}"))?;
+pub fn printed(program: &str, words: &[&str], input: &[u8], random: &mut Random) -> Result<Vec<u8>, String> {
+    let output = output(program, words, input, random).map_err(|error| format!("{program}: {error}"))?;
     if output.status.success() {
         Ok(output.stdout)
     } else {

@@ -1,6 +1,7 @@
 //! Demand 3's three spans of slots, counted on the reference's port, independently of the proof.
 
 use crate::port::{Port, Sent};
+use crate::replay::Lens;
 use std::sync::LazyLock;
 
 /// The bounds, as they are proved: the three numbers behind `Promised lens`.
@@ -14,7 +15,8 @@ pub static BOUNDS: LazyLock<[u64; 3]> = LazyLock::new(|| {
 });
 
 /// Slots from a command's carriage return to the one that acts on it, and to the last byte of its reply; and from a record's last
-/// byte to the next record's first while continuous sending stays on. Each span runs from the slot count that it holds.
+/// byte to the next record's first while continuous sending stays on; all of one port, in its own slots. Each span runs from the
+/// slot count that it holds.
 #[derive(Default)]
 pub struct Spans {
     slots: u64,
@@ -38,10 +40,11 @@ impl Spans {
         }
     }
 
-    /// Runs one slot of the port and counts it.
-    pub fn slot(&mut self, port: &mut Port) -> Option<u8> {
-        let starts = !port.under_way();
-        let sent = port.slot();
+    /// Runs one slot of the port, which is the lens's of this number, and counts it.
+    pub fn slot(&mut self, lens: &mut Lens, at: usize) -> Option<u8> {
+        let starts = !lens.ports[at].under_way();
+        let sent = lens.slot(at);
+        let port = &lens.ports[at];
         self.slots += 1;
         if starts && sent.is_some() && port.sent_last() == Sent::Record {
             let from = self.between_records.take();

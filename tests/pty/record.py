@@ -7,9 +7,7 @@ import subprocess
 import termios
 import threading
 
-from talk import END, PATIENCE, RECORD, ROOT, Talk, Wrong
-
-FIXED = b"NS4050.0093OBENCH                          LPN050M050UIT95  B4.34" + END
+from talk import END, FIXED, PATIENCE, RECORD, ROOT, Talk, Wrong
 
 FIXED_ROWS = """fixed data, 67 bytes
    1 serial                  "4050.0093"

@@ -2,6 +2,7 @@
 use Prim.Native.Nat.{ℕ, zero, suc, _+_, _-_, _*_, _≤_, _<_}
 use mathlib.Core.Bool.{true, _&&_}
 use mathlib.Core.List.{List, [], _∷_, _++_}
+use mathlib.Core.Logic.{_≢_}
 use mathlib.Core.Path.{_≡_, refl, sym, ap, subst, _∙_}
 use native.Mathlib.Nat.{add-zero}
 use native.Mathlib.Omega.{arith}
@@ -162,3 +163,24 @@ says s =
     by (Says s) (eqb kind 77 && isMeasurement s) _ _
     (λ t. measurement-says s (eqb-true kind 77 (and-left (eqb kind 77) (isMeasurement s) t)) (tested s (and-right (eqb kind 77) (isMeasurement s) t)))
     (λ _. tt)))
+
+-- ---- the first byte
+
+-- an event's line begins with R, S or M
+first-by : (b : ℕ) (s : List ℕ) → b ≢ 82 → b ≢ 83 → b ≢ 77 → (e : Event) → Says (b ∷ s) e → e ≡ Other
+first-by b s r n m (Received x) h = absurd (r (cc))
+first-by b s r n m (Slots x) h = absurd (n (cc))
+first-by b s r n m (Measured x) h = absurd (m (cc))
+first-by b s r n m Other h = refl
+
+pub first-other : (b : ℕ) (s : List ℕ) → b ≢ 82 → b ≢ 83 → b ≢ 77 → eventOf (b ∷ s) ≡ Other
+first-other b s r n m = first-by b s r n m (eventOf (b ∷ s)) (says (b ∷ s))
+
+pub none-other : eventOf [] ≡ Other
+none-other = none-by (eventOf []) (says [])
+  where
+    none-by : (e : Event) → Says [] e → e ≡ Other
+    none-by (Received x) h = let l = ap length (h .is) in absurd (omega arith)
+    none-by (Slots x) h = let l = ap length (h .is) in absurd (omega arith)
+    none-by (Measured x) h = let l = ap length (h .is) in absurd (omega arith)
+    none-by Other h = refl

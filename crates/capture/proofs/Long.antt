@@ -1,4 +1,4 @@
--- A line of more than 135 bytes is of other form: no event's line is longer. So the first 136 bytes of a line tell its event.
+-- A line of more than 135 bytes is of other form: no event's line is longer. So the first 136 bytes of a line tell its event, and as well more of them.
 -- Assumes nothing.
 use Prim.Native.Nat.{ℕ, _+_, _*_, _≤_, _<_}
 use mathlib.Core.List.{List, _∷_}
@@ -34,11 +34,11 @@ other-by s h Other r = refl
 pub long-other : (s : List ℕ) → 135 < length s → eventOf s ≡ Other
 long-other s h = other-by s h (eventOf s) (says s)
 
-pub first-136 : (s : List ℕ) → eventOf (take 136 s) ≡ eventOf s
-first-136 s =
-    told (leb (length s) 136)
-    (λ e. ap eventOf (take-all 136 s (leb-true (length s) 136 e)))
+pub first-bytes : (n : ℕ) (s : List ℕ) → 136 ≤ n → eventOf (take n s) ≡ eventOf s
+first-bytes n s k =
+    told (leb (length s) n)
+    (λ e. ap eventOf (take-all n s (leb-true (length s) n e)))
     (λ e.
-    let h = leb-false (length s) 136 e in
-    let l = length-take-le 136 s (omega arith) in
-    long-other (take 136 s) (omega arith) ∙ sym (long-other s (omega arith)))
+    let h = leb-false (length s) n e in
+    let l = length-take-le n s (omega arith) in
+    long-other (take n s) (omega arith) ∙ sym (long-other s (omega arith)))

@@ -11,7 +11,7 @@ use Rattle.laws.proofs.Tests.{never}
 use Rattle.refusal.specs.Answer.{Answer, accepted, refused}
 use Rattle.refusal.specs.Refusal.{numberOf, valueOf}
 use Rattle.refusal.specs.declared.Refusal.{Refusal}
-use Rattle.refusal.specs.declared.Refusal.the-variants.{Field, Room, Length, End, Checksum, Contents, Dropped, Setting, TooLong, Form, Lost, State}
+use Rattle.refusal.specs.declared.Refusal.the-variants.{Field, Room, Length, End, Checksum, Contents, Dropped, Setting, TooLong, Form, Lost, NoPort, State}
 use Rattle.refusal.proofs.Promises.{numbers}
 use Rattle.codec.specs.Codec.{Codec}
 use Rattle.codec.specs.Places.{Place}
@@ -55,6 +55,7 @@ by-own (Setting i) = refl
 by-own TooLong = refl
 by-own Form = refl
 by-own Lost = refl
+by-own NoPort = refl
 by-own State = refl
 
 -- the number tells this refusal

@@ -1,6 +1,10 @@
-// The session program of document 01, and the driver. It keeps one port, the bench lens, and one line
-// collector, and moves bytes between standard input and output. An argument gives another start-up letter
-// than I.
+// The session program of document 01, and the driver.
+//
+//   driver [LETTER]          one port, on standard input and output
+//   driver ports [LETTER]    the box with both connectors: module ports
+//
+// LETTER is another start-up letter than I. The lens is the bench lens. With one port the program keeps it
+// and one line collector, and moves bytes between standard input and output.
 //
 // On an input that waits, as a file or a pipe, it is the session program: after the start and after each
 // byte slots run until idle, at most 400. On a line, a turn is a slot: its byte is written, and a received
@@ -9,6 +13,8 @@
 // that the port has then; a signal may end a sleep early. So that it can look without waiting, whoever starts
 // it sets O_NONBLOCK on standard input. Until a look has come back empty, it takes its input for one that
 // waits.
+mod ports;
+
 use libc::EAGAIN;
 use libc::EINTR;
 use libc::STDERR_FILENO;
@@ -75,6 +81,12 @@ fn received(port: Port, line: Line, byte: u8) -> Held
     Held { port, line: kept }
 }
 
+// A call that failed may be made once more: it would have waited, or a signal came.
+fn is_for_later() -> bool {
+    let error = os::errno();
+    (error == EAGAIN) | (error == EINTR)
+}
+
 // One byte of an input, if there is one.
 fn look(fd: i32) -> Seen {
     let mut byte = [0u8; 1];
@@ -85,8 +97,7 @@ fn look(fd: i32) -> Seen {
     if got == 0 {
         return Seen::End;
     }
-    let error = os::errno();
-    if (error == EAGAIN) | (error == EINTR) {
+    if is_for_later() {
         return Seen::Nothing;
     }
     Seen::End
@@ -217,26 +228,50 @@ fn run(desk: Desk, waiting: i32) {
     }
 }
 
-// The start-up letter that the first argument gives.
-fn start_letter() -> u8 {
+// The start-up letter that an argument gives.
+fn start_letter(number: usize) -> u8 {
     let mut word = io::buffer();
-    let n = os::arg(1, &mut word);
+    let n = os::arg(number, &mut word);
     bench_lens::letter_of(&word[..n])
 }
 
-fn main() {
+// Tells that the letter was refused.
+fn tell_letter() {
+    io::write_all(
+        STDERR_FILENO,
+        b"driver: the start-up letter is none of I, M, B, b\n",
+    );
+}
+
+// The first argument asks for both ports.
+fn asks_for_ports() -> bool {
+    let mut word = io::buffer();
+    let n = os::arg(1, &mut word);
+    is_ports(&word[..n])
+}
+
+fn is_ports(word: &[u8]) -> bool {
+    if word.len() != 5 {
+        return false;
+    }
+    (word[0] == b'p')
+        & (word[1] == b'o')
+        & (word[2] == b'r')
+        & (word[3] == b't')
+        & (word[4] == b's')
+}
+
+// One port, on standard input and output.
+fn serve(letter: u8) {
     let started = Port::start(
         Port::unstarted(),
         Line::blank(),
-        bench_lens::bench_settings(start_letter()),
+        bench_lens::bench_settings(letter),
         bench_lens::bench_measurement(),
     );
     let verdict = started.verdict;
     if let Verdict::Refused(_) = verdict {
-        io::write_all(
-            STDERR_FILENO,
-            b"driver: the start-up letter is none of I, M, B, b\n",
-        );
+        tell_letter();
         return;
     }
     let port = started.port;
@@ -253,4 +288,12 @@ fn main() {
         },
         waiting,
     );
+}
+
+fn main() {
+    if asks_for_ports() {
+        ports::serve(start_letter(2));
+        return;
+    }
+    serve(start_letter(1));
 }

@@ -65,6 +65,9 @@ event-comes : (r : Run) (e : Event) → Comes r (tellOf r e) (callsOf r e)
 unfolding tellOf callsOf
 event-comes r e = both (Comes r) (isOver r) (over-comes r) (by-event r e)
 
+pub event-number : (r : Run) (e : Event) → tellOf r e .run .slots ≡ r .slots + slotsRun (heldBy r) (callsOf r e)
+event-number r e = event-comes r e .number
+
 pub event-state : (r : Run) (e : Event) → heldBy (tellOf r e .run) ≡ afterAll (heldBy r) (callsOf r e)
 event-state r e = event-comes r e .state
 

@@ -13,65 +13,65 @@ use Rattle.refusal.specs.declared.Refusal.the-variants as refusal
 use Rattle.frame.specs.declared.Wrote.{Wrote}
 use Rattle.frame.specs.declared.Wrote.the-variants.{Count, Refused}
 use Rattle.capture.specs.Words.{before}
-use Rattle.capture.specs.Capture.{eventOf}
-use Rattle.capture.specs.declared.Event.{Event}
 use Rattle.capture.proofs.Words.{before-low}
 use Rattle.printed.specs.Printed.{LF}
-use Rattle.telling.specs.Telling.{validRun, Telling, tellOf, toldOf, toldLeaves}
-use Rattle.telling.specs.declared.Run.{Run}
-use Rattle.telling.specs.declared.Told.{Told}
-use Rattle.telling.proofs.Promises.{each-call}
-use Rattle.follow.specs.Follow.{blankText, validText, heldIn, validFollower, followedBy, refusedState, holdOf, lineIn, takeOf, takeLeaves, closeOf, closeLeaves}
+use Rattle.runs.specs.Runs.{validRuns, TellingAt, tellAt, toldAt, toldAtLeaves}
+use Rattle.runs.specs.declared.Addressed.{Addressed}
+use Rattle.runs.specs.declared.Runs.{Runs}
+use Rattle.runs.specs.declared.ToldAt.{ToldAt}
+use Rattle.runs.proofs.Promises.{each-call}
+use Rattle.follow.specs.Follow.{blankText, validText, validFollower, followedBy, refusedState, holdOf, eventIn, eventHeld, takeOf, takeLeaves, closeOf, closeLeaves}
 use Rattle.follow.specs.declared.Follower.{Follower}
 use Rattle.follow.specs.declared.Followed.{Followed}
 use Rattle.follow.proofs.Laws.{take-16, take-hold, take-line, close-16, close-none, close-line}
 
 -- ---- a line that is told
 
-module _ (r : Run) (e : Event) (out : List ℕ) (v : validRun r ≡ true) where
-  abbrev t : Telling
-  t = tellOf r e
+module _ (r : Runs) (x : Addressed) (out : List ℕ) (v : validRuns r ≡ true) where
+  abbrev t : TellingAt
+  t = tellAt r x
 
-  told-whole : length (t .text) ≤ length out → (toldOf r e out ≡ record { wrote = Count (length (t .text)); run = t .run }) × (toldLeaves r e out ≡ over out 0 (t .text))
-  told-whole h = each-call .tell-done r e out v h
+  told-whole : length (t .text) ≤ length out →
+      (toldAt r x out ≡ record { wrote = Count (length (t .text)); runs = t .runs }) × (toldAtLeaves r x out ≡ over out 0 (t .text))
+  told-whole h = each-call .tell-done r x out (each-call .both-valid r .0 v (x .side)) h
 
-  told-short : length out < length (t .text) → (toldOf r e out ≡ record { wrote = Refused (refusal.Room (length (t .text))); run = r }) × (toldLeaves r e out ≡ out)
+  told-short : length out < length (t .text) → (toldAt r x out ≡ record { wrote = Refused (refusal.Room (length (t .text))); runs = r }) × (toldAtLeaves r x out ≡ out)
   told-short h =
-      let w = each-call .tell-2 r e out (length (t .text)) .1 (v, h, refl) in
-      let same = each-call .tell-same r e out _ w in
-      (ap₂ (λ (x : Wrote) (q : Run). record { wrote = x; run = q }) w (same .0), same .1)
+      let w = each-call .tell-2 r x out (length (t .text)) .1 (each-call .both-valid r .0 v (x .side), h, refl) in
+      let same = each-call .tell-same r x out _ w in
+      (ap₂ (λ (y : Wrote) (q : Runs). record { wrote = y; runs = q }) w (same .0), same .1)
 
 -- ---- take
 
-valid-run : (f : Follower) → validFollower f ≡ true → validRun (f .run) ≡ true
-valid-run f v = and-left (validRun (f .run)) (validText (f .text)) v
+valid-runs : (f : Follower) → validFollower f ≡ true → validRuns (f .runs) ≡ true
+valid-runs f v = and-left (validRuns (f .runs)) (validText (f .text)) v
 
 -- the follower once a text was printed
-abbrev pub toldTo : Telling → ℕ → Followed
-toldTo t used = record { wrote = Count (length (t .text)); used = used; follower = record { run = t .run; text = blankText } }
+abbrev pub toldTo : Follower → TellingAt → ℕ → Followed
+toldTo f t used = record { wrote = Count (length (t .text)); used = used; follower = record { runs = t .runs; text = blankText; ports = f .ports } }
 
-abbrev pub shortOf : Follower → Telling → Followed
+abbrev pub shortOf : Follower → TellingAt → Followed
 shortOf f t = record { wrote = Refused (refusal.Room (length (t .text))); used = 0; follower = f }
 
 module _ (f : Follower) (piece out : List ℕ) where
   -- what the line tells that ends in the piece
-  abbrev pub ending : Telling
-  ending = tellOf (f .run) (eventOf (lineIn f (take (before LF piece) piece)))
+  abbrev pub ending : TellingAt
+  ending = tellAt (f .runs) (eventIn f (take (before LF piece) piece))
 
   pub data Took : Type 0 where
     invalid : validFollower f ≡ false → takeOf f piece out ≡ refusedState f → takeLeaves f piece out ≡ out → Took
     held : validFollower f ≡ true → before LF piece ≡ length piece → takeOf f piece out ≡ holdOf f piece → takeLeaves f piece out ≡ out → Took
     whole : validFollower f ≡ true → before LF piece < length piece → length (ending .text) ≤ length out →
-        takeOf f piece out ≡ toldTo ending (before LF piece + 1) → takeLeaves f piece out ≡ over out 0 (ending .text) → Took
+        takeOf f piece out ≡ toldTo f ending (before LF piece + 1) → takeLeaves f piece out ≡ over out 0 (ending .text) → Took
     short : validFollower f ≡ true → before LF piece < length piece → length out < length (ending .text) →
         takeOf f piece out ≡ shortOf f ending → takeLeaves f piece out ≡ out → Took
 
-  abbrev event : Event
-  event = eventOf (lineIn f (take (before LF piece) piece))
+  abbrev event : Addressed
+  event = eventIn f (take (before LF piece) piece)
 
   -- a line ends
   pub line-is : validFollower f ≡ true → before LF piece < length piece →
-      (takeOf f piece out ≡ followedBy f (toldOf (f .run) event out) (before LF piece + 1)) × (takeLeaves f piece out ≡ toldLeaves (f .run) event out)
+      (takeOf f piece out ≡ followedBy f (toldAt (f .runs) event out) (before LF piece + 1)) × (takeLeaves f piece out ≡ toldAtLeaves (f .runs) event out)
   line-is v low =
       let g = take-line f piece out v (λ e. absurd (omega arith)) refl (record { answers = refl; leaves = refl }) in
       (sym (g .answers), sym (g .leaves))
@@ -80,7 +80,7 @@ module _ (f : Follower) (piece out : List ℕ) where
   took =
       told (validFollower f)
       (λ v.
-      let run = valid-run f v in
+      let ours = valid-runs f v in
       told (eqb (before LF piece) (length piece))
       (λ e.
       let g = take-hold f piece out v (eqb-true _ _ e) in
@@ -91,11 +91,11 @@ module _ (f : Follower) (piece out : List ℕ) where
       let l = line-is v low in
       told (leb (length (ending .text)) (length out))
       (λ h.
-      let t = told-whole (f .run) event out run (leb-true _ _ h) in
-      whole v low (leb-true _ _ h) (l .0 ∙ ap (λ (x : Told). followedBy f x (before LF piece + 1)) (t .0)) (l .1 ∙ t .1))
+      let t = told-whole (f .runs) event out ours (leb-true _ _ h) in
+      whole v low (leb-true _ _ h) (l .0 ∙ ap (λ (x : ToldAt). followedBy f x (before LF piece + 1)) (t .0)) (l .1 ∙ t .1))
       (λ h.
-      let t = told-short (f .run) event out run (leb-false _ _ h) in
-      short v low (leb-false _ _ h) (l .0 ∙ ap (λ (x : Told). followedBy f x (before LF piece + 1)) (t .0)) (l .1 ∙ t .1))))
+      let t = told-short (f .runs) event out ours (leb-false _ _ h) in
+      short v low (leb-false _ _ h) (l .0 ∙ ap (λ (x : ToldAt). followedBy f x (before LF piece + 1)) (t .0)) (l .1 ∙ t .1))))
       (λ v.
       let g = take-16 f piece out v in
       invalid v (sym (g .answers)) (sym (g .leaves)))
@@ -104,13 +104,13 @@ module _ (f : Follower) (piece out : List ℕ) where
 
 module _ (f : Follower) (out : List ℕ) where
   -- what the line tells that has not ended
-  abbrev pub unended : Telling
-  unended = tellOf (f .run) (eventOf (heldIn (f .text)))
+  abbrev pub unended : TellingAt
+  unended = tellAt (f .runs) (eventHeld f)
 
   pub data Closed : Type 0 where
     invalid : validFollower f ≡ false → closeOf f out ≡ refusedState f → closeLeaves f out ≡ out → Closed
     no-line : validFollower f ≡ true → f .text .len ≡ 0 → closeOf f out ≡ record { wrote = Count 0; used = 0; follower = f } → closeLeaves f out ≡ out → Closed
-    whole : validFollower f ≡ true → (f .text .len ≡ 0 → ⊥) → length (unended .text) ≤ length out → closeOf f out ≡ toldTo unended 0 →
+    whole : validFollower f ≡ true → (f .text .len ≡ 0 → ⊥) → length (unended .text) ≤ length out → closeOf f out ≡ toldTo f unended 0 →
         closeLeaves f out ≡ over out 0 (unended .text) → Closed
     short : validFollower f ≡ true → (f .text .len ≡ 0 → ⊥) → length out < length (unended .text) → closeOf f out ≡ shortOf f unended →
         closeLeaves f out ≡ out → Closed
@@ -119,7 +119,7 @@ module _ (f : Follower) (out : List ℕ) where
   closed =
       told (validFollower f)
       (λ v.
-      let run = valid-run f v in
+      let ours = valid-runs f v in
       told (eqb (f .text .len) 0)
       (λ e.
       let g = close-none f out v (eqb-true _ _ e) in
@@ -129,11 +129,11 @@ module _ (f : Follower) (out : List ℕ) where
       let g = close-line f out v n refl (record { answers = refl; leaves = refl }) in
       told (leb (length (unended .text)) (length out))
       (λ h.
-      let t = told-whole (f .run) (eventOf (heldIn (f .text))) out run (leb-true _ _ h) in
-      whole v n (leb-true _ _ h) (sym (g .answers) ∙ ap (λ (x : Told). followedBy f x 0) (t .0)) (sym (g .leaves) ∙ t .1))
+      let t = told-whole (f .runs) (eventHeld f) out ours (leb-true _ _ h) in
+      whole v n (leb-true _ _ h) (sym (g .answers) ∙ ap (λ (x : ToldAt). followedBy f x 0) (t .0)) (sym (g .leaves) ∙ t .1))
       (λ h.
-      let t = told-short (f .run) (eventOf (heldIn (f .text))) out run (leb-false _ _ h) in
-      short v n (leb-false _ _ h) (sym (g .answers) ∙ ap (λ (x : Told). followedBy f x 0) (t .0)) (sym (g .leaves) ∙ t .1))))
+      let t = told-short (f .runs) (eventHeld f) out ours (leb-false _ _ h) in
+      short v n (leb-false _ _ h) (sym (g .answers) ∙ ap (λ (x : ToldAt). followedBy f x 0) (t .0)) (sym (g .leaves) ∙ t .1))))
       (λ v.
       let g = close-16 f out v in
       invalid v (sym (g .answers)) (sym (g .leaves)))

@@ -13,11 +13,11 @@ use Rattle.refusal.specs.declared.Refusal.{Refusal}
 use Rattle.refusal.specs.declared.Refusal.the-variants.{Room, State}
 use Rattle.frame.specs.declared.Wrote.the-variants.{Count, Refused}
 use Rattle.capture.specs.Words.{before}
-use Rattle.capture.proofs.Promises.{forms}
 use Rattle.printed.specs.Printed.{LF}
-use Rattle.telling.specs.Telling.{validRun}
-use Rattle.telling.proofs.Promises.{promised}
-use Rattle.follow.specs.Follow.{heldLength, validText, heldIn, joins, joinedText, validFollower, lineIn, takeOf, takeLeaves, closeOf, closeLeaves}
+use Rattle.runs.specs.Runs.{validRuns}
+use Rattle.runs.proofs.Ports.{few-slots}
+use Rattle.runs.proofs.Promises.{each-call as of-runs}
+use Rattle.follow.specs.Follow.{heldLength, validText, heldIn, joins, joinedText, validFollower, lineIn, eventIn, eventHeld, takeOf, takeLeaves, closeOf, closeLeaves}
 use Rattle.follow.specs.Promises.{EachCall}
 use Rattle.follow.specs.declared.Text.{Text}
 use Rattle.follow.specs.declared.Follower.{Follower}
@@ -27,17 +27,17 @@ use Rattle.follow.proofs.Each.{ending, Took, invalid, held, whole, shor
 -- ---- a follower that is none of ours
 
 abbrev Foreign : Follower → Type 0
-Foreign f = (validRun (f .run) ≡ false) ⊎ (136 < f .text .len)
+Foreign f = (validRuns (f .runs) ≡ false) ⊎ (138 < f .text .len)
 
 foreign : (f : Follower) → validFollower f ≡ false → Foreign f
 foreign f n =
-    told (validRun (f .run))
+    told (validRuns (f .runs))
     (λ r. told (validText (f .text)) (λ t. never (cc (and-both r t))) (λ t. inr (leb-false _ _ t)))
     (λ r. inl r)
 
 is-foreign : (f : Follower) → Foreign f → validFollower f ≡ false
 is-foreign f (inl r) = sym (and-fails (validText (f .text)) r)
-is-foreign f (inr t) = sym (and-fails-by (validRun (f .run)) (lt-leb _ _ t))
+is-foreign f (inr t) = sym (and-fails-by (validRuns (f .runs)) (lt-leb _ _ t))
 
 -- ---- a line that comes in
 
@@ -87,14 +87,14 @@ module _ {f : Follower} {piece out : List ℕ} where
   goes-on (held v q e l) t h = (0, cc)
   goes-on (whole v q k e l) t h = (length (ending f piece out .text), cc)
   goes-on (short v q k e l) t h =
-      let most = promised .each-call .longest (f .run) _ (λ n s. forms .slots (lineIn f (take (before LF piece) piece)) n .0 s .high) in
+      let most = of-runs .longest (f .runs) (eventIn f (take (before LF piece) piece)) (few-slots (f .ports) (lineIn f (take (before LF piece) piece))) in
       absurd (omega arith)
 
   kept-valid : Took f piece out → validFollower f ≡ true → validFollower (takeOf f piece out .follower) ≡ true
   kept-valid (invalid v e l) t = rw e t
   kept-valid (held v q e l) t =
-      rw e (and-both (and-left (validRun (f .run)) _ t) (le-leb _ _ (joined-few (f .text) piece (leb-true _ _ (valid-text f t)))))
-  kept-valid (whole v q k e l) t = rw e (and-both (promised .each-call .tell-valid (f .run) _ (and-left (validRun (f .run)) _ t)) refl)
+      rw e (and-both (and-left (validRuns (f .runs)) _ t) (le-leb _ _ (joined-few (f .text) piece (leb-true _ _ (valid-text f t)))))
+  kept-valid (whole v q k e l) t = rw e (and-both (of-runs .tell-valid (f .runs) _ (and-left (validRuns (f .runs)) _ t)) refl)
   kept-valid (short v q k e l) t = rw e t
 
 close-same : {f : Follower} {out : List ℕ} → Closed f out → (x : Refusal) → closeOf f out .wrote ≡ Refused x → (closeOf f out .follower ≡ f) × (closeLeaves f out ≡ out)
@@ -123,13 +123,13 @@ close-goes-on (invalid v e l) t h = never (cc)
 close-goes-on (no-line v z e l) t h = (0, cc)
 close-goes-on {f} {out} (whole v z k e l) t h = (length (unended f out .text), cc)
 close-goes-on {f} (short v z k e l) t h =
-    let most = promised .each-call .longest (f .run) _ (λ n s. forms .slots (heldIn (f .text)) n .0 s .high) in
+    let most = of-runs .longest (f .runs) (eventHeld f) (few-slots (f .ports) (heldIn (f .text))) in
     absurd (omega arith)
 
 close-valid : {f : Follower} {out : List ℕ} → Closed f out → validFollower f ≡ true → validFollower (closeOf f out .follower) ≡ true
 close-valid (invalid v e l) t = rw e t
 close-valid (no-line v z e l) t = rw e t
-close-valid {f} (whole v z k e l) t = rw e (and-both (promised .each-call .tell-valid (f .run) _ (and-left (validRun (f .run)) _ t)) refl)
+close-valid {f} (whole v z k e l) t = rw e (and-both (of-runs .tell-valid (f .runs) _ (and-left (validRuns (f .runs)) _ t)) refl)
 close-valid (short v z k e l) t = rw e t
 
 close-once : {f : Follower} {out : List ℕ} {n : ℕ} → Closed f out → closeOf f out .wrote ≡ Count n → (closeOf f out .used ≡ 0) × (closeOf f out .follower .text .len ≡ 0)
@@ -140,7 +140,7 @@ close-once (short v z k e l) h = never (cc)
 
 pub each-call : EachCall
 each-call = record {
-  begins = λ letter. refl;
+  begins = λ letter ports. of-runs .start-verdict letter;
   close-once = λ f out n. close-once (closed f out);
   take-16 = λ f piece out. (
     λ h. foreign f (take-16 (took f piece out) .0 h),

@@ -1,81 +1,62 @@
--- Lines behind lines are told from the run that those leave, and a run that is over stays as it is: so its end is the end, and no run has more slots
--- than its last. Assumes nothing.
+-- The end of a run of one port, and its last slot: what holds of lines on both ports, seen from the camera side. Assumes nothing.
 use Prim.Native.Nat.{ℕ, _≤_}
 use mathlib.Core.Bool.{true, false}
-use mathlib.Core.List.{List, [], _∷_, _++_, append-assoc, append-nil}
-use mathlib.Core.Logic.{⊎-elim}
-use mathlib.Core.Path.{_≡_, refl, ap, ap₂, _∙_}
-use native.Mathlib.Omega.{arith}
-use Rattle.laws.proofs.Tests.{by}
+use mathlib.Core.List.{List, _∷_, _++_}
+use mathlib.Core.Path.{_≡_, sym, ap, _∙_}
 use Rattle.refusal.specs.declared.Refusal.the-variants.{Form}
 use Rattle.capture.specs.Capture.{eventOf}
-use Rattle.capture.specs.declared.Event.{Event}
-use Rattle.capture.specs.declared.Event.the-variants.{Received, Slots, Measured, Other}
+use Rattle.capture.specs.declared.Event.the-variants.{Other}
+use Rattle.connectors.specs.Connectors.{ownOf}
+use Rattle.connectors.specs.declared.Side.the-variants.{Camera}
 use Rattle.printed.specs.Printed.{refusedText}
-use Rattle.telling.specs.Telling.{isOver, Telling, tells, tellOf}
+use Rattle.telling.specs.Telling.{isOver, Telling}
 use Rattle.telling.specs.declared.Run.{Run}
-use Rattle.telling.proofs.Laws.{slots-fit}
-use Rattle.telling.proofs.Promises.{promised}
+use Rattle.runs.specs.Runs.{eventAt, runAt}
+use Rattle.runs.specs.declared.Addressed.{Addressed}
+use Rattle.runs.specs.declared.Runs.{Runs}
+use Rattle.runs.proofs.Ports.{of-ports}
 use Rattle.follow.specs.Replay.{tellAll}
-use Rattle.follow.proofs.Whole.{ahead}
+use Rattle.follow.specs.Both.{tellBoth}
+use Rattle.follow.proofs.Both as both
+use Rattle.follow.proofs.Both.{ofCamera, camera-tells}
 
--- ---- lines behind lines
+-- runs whose camera side this is; the external side plays no part
+abbrev beside : Run → Runs
+beside r = record {
+  connectors = record { settings = r .port .source .settings; camera = ownOf (r .port); external = ownOf (r .port) };
+  lines = record { camera = r .line; external = r .line };
+  slots = r .slots;
+  stopped = r .stopped;
+}
 
-tell-append : (r : Run) (a b : List (List ℕ)) → tellAll r (a ++ b) ≡ ahead (tellAll r a .text) (tellAll (tellAll r a .run) b)
-unfolding tellAll
-tell-append r [] b = refl
-tell-append r (l ∷ a) b =
-    let t = tellOf r (eventOf l) in
-    ap (ahead (t .text)) (tell-append (t .run) a b) ∙ rw append-assoc
+module _ (r : Run) where
+  seen : (ls : List (List ℕ)) → tellAll r ls ≡ ofCamera (tellBoth false (beside r) ls)
+  seen ls = sym (camera-tells (beside r) ls)
 
--- a run that is over
-over-stays : (r : Run) (ls : List (List ℕ)) → isOver r ≡ true → tellAll r ls ≡ record { text = []; run = r }
-unfolding tellAll
-over-stays r [] o = refl
-over-stays r (l ∷ ls) o =
-    let t = promised .of-events .over r (eventOf l) o in
-    ap₂ (λ (s : List ℕ) (q : Run). ahead s (tellAll q ls)) (t .0) (t .1) ∙ over-stays r ls o
+  pub over : (before l : List (List ℕ)) → isOver (tellAll r before .run) ≡ true → tellAll r (before ++ l) ≡ tellAll r before
+  over before l o =
+      seen (before ++ l)
+      ∙ ap ofCamera (both.over false (beside r) before l (sym (ap (λ (t : Telling). isOver (t .run)) (seen before)) ∙ o))
+      ∙ sym (seen before)
 
-pub over : (r : Run) (before l : List (List ℕ)) → isOver (tellAll r before .run) ≡ true → tellAll r (before ++ l) ≡ tellAll r before
-over r before l o = let t = tellAll r before in tell-append r before l ∙ ap (ahead (t .text)) (over-stays (t .run) l o) ∙ rw (append-nil (t .text))
+  pub at-most : (ls : List (List ℕ)) → r .slots ≤ 100000 → tellAll r ls .run .slots ≤ 100000
+  at-most ls h = rw (seen ls) (both.at-most false (beside r) ls h)
 
--- ---- a line of other form
+  module _ (before l : List (List ℕ)) (line : List ℕ) (e : eventOf line ≡ Other) (o : isOver (tellAll r before .run) ≡ false) where
+    form : eventAt false line .event ≡ Other
+    form = ap (λ (x : Addressed). x .event) (of-ports .without line) ∙ e
 
-module _ (r : Run) (before l : List (List ℕ)) (line : List ℕ) (e : eventOf line ≡ Other) (o : isOver (tellAll r before .run) ≡ false) where
-  abbrev t : Telling
-  t = tellAll r before
+    on : isOver (runAt (tellBoth false (beside r) before .runs) Camera) ≡ false
+    on = sym (ap (λ (t : Telling). isOver (t .run)) (seen before)) ∙ o
 
-  other-ends : tellAll r (before ++ line ∷ l) ≡
-      record { text = t .text ++ refusedText Form; run = record { port = t .run .port; line = t .run .line; slots = t .run .slots; stopped = true } }
-  unfolding tellAll
-  other-ends =
-      let x = promised .of-events .other (t .run) o in
-      tell-append r before (line ∷ l)
-      ∙ ap (λ (y : Event). ahead (t .text) (ahead (tellOf (t .run) y .text) (tellAll (tellOf (t .run) y .run) l))) e
-      ∙ ap₂ (λ (s : List ℕ) (q : Run). ahead (t .text) (ahead s (tellAll q l))) (x .0) (x .1)
-      ∙ ap (λ (u : Telling). ahead (t .text) (ahead (refusedText Form) u)) (over-stays _ l refl)
-      ∙ rw (append-nil (refusedText Form))
+    pub other : tellAll r (before ++ line ∷ l) .text ≡ tellAll r before .text ++ refusedText Form
+    other =
+        ap (λ (t : Telling). t .text) (seen (before ++ line ∷ l))
+        ∙ both.other false (beside r) before l line form on
+        ∙ sym (ap (λ (t : Telling). t .text ++ refusedText Form) (seen before))
 
-  pub other : tellAll r (before ++ line ∷ l) .text ≡ tellAll r before .text ++ refusedText Form
-  other = ap (λ (x : Telling). x .text) other-ends
-
-  pub other-slots : tellAll r (before ++ line ∷ l) .run .slots ≡ tellAll r before .run .slots
-  other-slots = ap (λ (x : Telling). x .run .slots) other-ends
-
--- ---- the last slot
-
-tells-few : (r : Run) (e : Event) → r .slots ≤ 100000 → tells r e .run .slots ≤ 100000
-unfolding tells
-tells-few r (Received b) h = h
-tells-few r (Slots n) h = ⊎-elim (λ z. omega arith) (λ z. z) (slots-fit r n)
-tells-few r (Measured m) h = h
-tells-few r Other h = h
-
-few : (r : Run) (e : Event) → r .slots ≤ 100000 → tellOf r e .run .slots ≤ 100000
-unfolding tellOf
-few r e h = by (λ (t : Telling). t .run .slots ≤ 100000) (isOver r) _ _ (λ o. h) (λ o. tells-few r e h)
-
-pub at-most : (r : Run) (ls : List (List ℕ)) → r .slots ≤ 100000 → tellAll r ls .run .slots ≤ 100000
-unfolding tellAll
-at-most r [] h = h
-at-most r (l ∷ ls) h = at-most (tellOf r (eventOf l) .run) ls (few r (eventOf l) h)
+    pub other-slots : tellAll r (before ++ line ∷ l) .run .slots ≡ tellAll r before .run .slots
+    other-slots =
+        ap (λ (t : Telling). t .run .slots) (seen (before ++ line ∷ l))
+        ∙ both.other-slots false (beside r) before l line form on
+        ∙ sym (ap (λ (t : Telling). t .run .slots) (seen before))

@@ -1,6 +1,6 @@
 -- The line that has not ended yet: what is kept of it is its first bytes, which tell its event. Assumes nothing.
 use Prim.Native.Nat.{ℕ, _+_, _≤_, _<_}
-use mathlib.Core.Bool.{true, false}
+use mathlib.Core.Bool.{Bool, true, false}
 use mathlib.Core.List.{List, [], _∷_, _++_, append-nil, append-assoc}
 use mathlib.Core.Path.{_≡_, refl, sym, ap, subst, _∙_}
 use native.Mathlib.Numerals.{add-one}
@@ -13,14 +13,13 @@ use Rattle.laws.specs.Gives.{Gives}
 use Rattle.laws.proofs.Tests.{yes, no, told, and-right, cond-yes, cond-no}
 use Rattle.frame.specs.declared.Wrote.the-variants.{Count}
 use Rattle.capture.specs.Words.{before}
-use Rattle.capture.specs.Capture.{eventOf}
-use Rattle.capture.specs.declared.Event.{Event}
-use Rattle.capture.proofs.Long.{first-136}
-use Rattle.telling.specs.Contracts.{RunTell}
 use Rattle.printed.specs.Printed.{LF}
-use Rattle.telling.specs.Telling.{validRun, toldOf, toldLeaves}
-use Rattle.telling.specs.declared.Told.{Told}
-use Rattle.follow.specs.Follow.{heldLength, validText, heldIn, joins, joinedText, validFollower, followedBy, refusedState, holdOf, lineIn, takeOf, takeLeaves, closeOf, closeLeaves}
+use Rattle.runs.specs.Contracts.{RunsTell}
+use Rattle.runs.specs.Runs.{eventAt, validRuns, toldAt, toldAtLeaves}
+use Rattle.runs.specs.declared.Addressed.{Addressed}
+use Rattle.runs.specs.declared.ToldAt.{ToldAt}
+use Rattle.runs.proofs.Ports.{first-138}
+use Rattle.follow.specs.Follow.{heldLength, validText, heldIn, joins, joinedText, validFollower, followedBy, refusedState, holdOf, eventIn, eventHeld, takeOf, takeLeaves, closeOf, closeLeaves}
 use Rattle.follow.specs.declared.Text.{Text}
 use Rattle.follow.specs.declared.Follower.{Follower}
 use Rattle.follow.specs.declared.Followed.{Followed}
@@ -98,13 +97,13 @@ joined-sound t (b ∷ s) h =
     (λ e. subst (λ (u : Text). Sound (joinedText u s)) (sym (joins-full t b (ltb-false _ _ e))) (joined-sound t s h))
 
 -- they tell the event of the whole line
-pub tells-event : (t : Text) (s : List ℕ) → Sound t → eventOf (heldIn (joinedText t s)) ≡ eventOf (heldIn t ++ s)
-tells-event t s h = ap eventOf (held-joined t s h) ∙ first-136 (heldIn t ++ s)
+pub tells-event : (ports : Bool) (t : Text) (s : List ℕ) → Sound t → eventAt ports (heldIn (joinedText t s)) ≡ eventAt ports (heldIn t ++ s)
+tells-event ports t s h = ap (eventAt ports) (held-joined t s h) ∙ first-138 ports (heldIn t ++ s)
 
 -- ---- a call, by its case
 
 pub valid-text : (f : Follower) → validFollower f ≡ true → validText (f .text) ≡ true
-valid-text f v = and-right (validRun (f .run)) (validText (f .text)) v
+valid-text f v = and-right (validRuns (f .runs)) (validText (f .text)) v
 
 module _ (f : Follower) (piece out : List ℕ) where
   abbrev Takes : Followed → List ℕ → Type 0
@@ -118,12 +117,12 @@ module _ (f : Follower) (piece out : List ℕ) where
   unfolding takeOf takeLeaves
   take-hold v e = record { answers = yes _ v (yes _ (eq-eqb _ _ e) refl); leaves = yes _ v (yes _ (eq-eqb _ _ e) refl) }
 
-  pub take-line : {x : Event} {t : Told} {after : List ℕ} → validFollower f ≡ true → (before LF piece ≡ length piece → ⊥) →
-      x ≡ eventOf (lineIn f (take (before LF piece) piece)) → RunTell (f .run) x out t after → Takes (followedBy f t (before LF piece + 1)) after
+  pub take-line : {x : Addressed} {t : ToldAt} {after : List ℕ} → validFollower f ≡ true → (before LF piece ≡ length piece → ⊥) →
+      x ≡ eventIn f (take (before LF piece) piece) → RunsTell (f .runs) x out t after → Takes (followedBy f t (before LF piece + 1)) after
   unfolding takeOf takeLeaves
   take-line v n e g = record {
-    answers = yes _ v (no _ (ne-eqb _ _ n) (ap (λ (t : Told). followedBy f t (before LF piece + 1)) (g .answers ∙ ap (λ (y : Event). toldOf (f .run) y out) e)));
-    leaves = yes _ v (no _ (ne-eqb _ _ n) (g .leaves ∙ ap (λ (y : Event). toldLeaves (f .run) y out) e));
+    answers = yes _ v (no _ (ne-eqb _ _ n) (ap (λ (t : ToldAt). followedBy f t (before LF piece + 1)) (g .answers ∙ ap (λ (y : Addressed). toldAt (f .runs) y out) e)));
+    leaves = yes _ v (no _ (ne-eqb _ _ n) (g .leaves ∙ ap (λ (y : Addressed). toldAtLeaves (f .runs) y out) e));
   }
 
 module _ (f : Follower) (out : List ℕ) where
@@ -138,10 +137,10 @@ module _ (f : Follower) (out : List ℕ) where
   unfolding closeOf closeLeaves
   close-none v e = record { answers = yes _ v (yes _ (eq-eqb _ _ e) refl); leaves = yes _ v (yes _ (eq-eqb _ _ e) refl) }
 
-  pub close-line : {x : Event} {t : Told} {after : List ℕ} → validFollower f ≡ true → (f .text .len ≡ 0 → ⊥) →
-      x ≡ eventOf (heldIn (f .text)) → RunTell (f .run) x out t after → Closes (followedBy f t 0) after
+  pub close-line : {x : Addressed} {t : ToldAt} {after : List ℕ} → validFollower f ≡ true → (f .text .len ≡ 0 → ⊥) →
+      x ≡ eventHeld f → RunsTell (f .runs) x out t after → Closes (followedBy f t 0) after
   unfolding closeOf closeLeaves
   close-line v n e g = record {
-    answers = yes _ v (no _ (ne-eqb _ _ n) (ap (λ (t : Told). followedBy f t 0) (g .answers ∙ ap (λ (y : Event). toldOf (f .run) y out) e)));
-    leaves = yes _ v (no _ (ne-eqb _ _ n) (g .leaves ∙ ap (λ (y : Event). toldLeaves (f .run) y out) e));
+    answers = yes _ v (no _ (ne-eqb _ _ n) (ap (λ (t : ToldAt). followedBy f t 0) (g .answers ∙ ap (λ (y : Addressed). toldAt (f .runs) y out) e)));
+    leaves = yes _ v (no _ (ne-eqb _ _ n) (g .leaves ∙ ap (λ (y : Addressed). toldAtLeaves (f .runs) y out) e));
   }

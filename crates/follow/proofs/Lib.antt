@@ -1,10 +1,14 @@
 pub mod Laws
 pub mod Each
 pub mod Lines
-pub mod Whole
 pub mod Calls
+pub mod Both
+pub mod Whole
 pub mod Shown
 pub mod Ends
 pub mod EachCall
+pub mod Box
+pub mod Always
+pub mod Examples
 pub mod Promises
 pub mod Unique

@@ -1,57 +1,43 @@
--- What a replay promises, put together; the two examples of the request are computed. Assumes nothing.
-use Prim.Native.Nat.{ℕ, zero, suc, _+_, _≤_}
-use mathlib.Core.List.{List, [], _∷_, _++_}
-use mathlib.Core.Path.{_≡_, refl, ap, subst, sym, _∙_}
-use Rattle.laws.specs.Every.{every}
-use Rattle.laws.specs.Over.{over as written}
-use Rattle.laws.specs.Within.{within}
-use Rattle.codec.specs.Codec.{failing, first, textOk}
-use Rattle.stop.specs.Stop.{stopOk}
-use Rattle.record.specs.Record.{frontLowest, middleLowest, backLowest, figuresLowest}
-use Rattle.fixed.specs.Fixed.{kindOk, letterOk, lensLowest, fixedLowest, settingsLowest}
-use Rattle.units.specs.Units.{byUnit}
-use Rattle.units.specs.Measurement.{measurementLowest, measurementVerdict}
-use Rattle.line.specs.Line.{zeros as lineZeros}
-use Rattle.state.specs.State.{zeros as stateZeros, validModes, validMessage, validSource}
-use Rattle.rules.specs.Does.{isOn}
-use Rattle.capture.specs.Words.{before, behind, word, spaces, sole}
-use Rattle.capture.specs.Numbers.{digitsOf}
-use Rattle.capture.specs.Capture.{slotsBy, eventOf}
+-- What a replay promises, put together. Assumes nothing.
+use Prim.Native.Nat.{ℕ, _+_, _≤_}
+use mathlib.Core.Bool.{true, false}
+use mathlib.Core.List.{List}
+use mathlib.Core.Path.{_≡_, refl, sym, ap, subst, _∙_}
+use lib.ListN.{replicate}
+use Rattle.laws.proofs.Tests.{cond-no}
+use Rattle.refusal.specs.declared.Verdict.the-variants.{Done}
 use Rattle.machine.specs.Machine.{sent, start}
 use Rattle.machine.specs.Promised.{Promised}
-use Rattle.refusal.specs.declared.Verdict.the-variants.{Done}
-use Rattle.digits.specs.Digits.{digits, value, readDigits, readField}
 use Rattle.bench_lens.specs.Bench.{benchSettings, benchMeasurement}
-use Rattle.state.specs.declared.Source.{Source}
 use Rattle.line.specs.Line.{blank}
+use Rattle.state.specs.declared.Source.{Source}
 use Rattle.rules.specs.Lens.{lens}
 use Rattle.rules.specs.Promise.{actBy, replyBy, recordBy}
 use Rattle.port.specs.declared.Port.{Port}
-use Rattle.port.specs.Port.{unstarted, startedPort, startOf, startVerdict, handed, unitOf, slotOf, sendFrom, chooseOf, restOf, actOf, movedIf, validPort}
+use Rattle.port.specs.Port.{unstarted, startedPort}
 use Rattle.port.proofs.Promises.{leaves-new}
 use Rattle.walk.specs.Calls.{slots-once, afterAll, eventsAll}
 use Rattle.walk.proofs.Calls.{of-the-port}
-use Rattle.printed.specs.Printed.{widthOf, labelled, slotsText, afterSlots, separator, hexDigit}
-use Rattle.telling.specs.Telling.{startWith, validRun, isOver, tellOf, tells, slotsLeft}
-use Rattle.follow.specs.Replay.{lines, tellAll, replayWith, replayOf}
-use Rattle.follow.specs.Calls.{Fed, no-more, next, Replays, heldBy, callsBy, callsOf, callsIn, shown}
-use Rattle.follow.specs.Follow.{beginsWith, validFollower, takeOf, takeLeaves, closeOf}
-use Rattle.follow.specs.declared.Follower.{Follower}
-use Rattle.follow.proofs.EachCall.{each-call}
-use Rattle.telling.proofs.Promises.{promised}
-use Rattle.telling.proofs.Events.{short-line, fits-left}
-use Rattle.telling.specs.declared.Run.{Run}
+use Rattle.connectors.specs.declared.Side.the-variants.{Camera}
 use Rattle.capture.specs.declared.Event.{Event}
 use Rattle.capture.specs.declared.Event.the-variants.{Received, Slots, Measured}
-use Rattle.laws.proofs.Tests.{and-both, and-left, cond-no}
-use native.Mathlib.Omega.{arith}
-use mathlib.Core.Bool.{true, false}
-use lib.ListN.{length, take, drop, replicate, length-drop, take-append-drop}
+use Rattle.telling.specs.Telling.{startWith, isOver, tellOf}
+use Rattle.telling.specs.declared.Run.{Run}
+use Rattle.telling.proofs.Events.{fits-left}
+use Rattle.runs.specs.Runs.{startRuns}
+use Rattle.runs.proofs.Promises.{each-call}
+use Rattle.follow.specs.Replay.{lines, tellAll, replayWith}
+use Rattle.follow.specs.Both.{tellBoth, replayBoth}
+use Rattle.follow.specs.Calls.{Replays, heldBy, callsBy, callsOf, callsIn, shown}
 use Rattle.follow.specs.Promises.{WholeText, OfTheCalls, Entries}
+use Rattle.follow.specs.Ports.{WithPorts}
 use Rattle.follow.proofs.Calls.{event-state, from-start, states, number, by-calls}
+use Rattle.follow.proofs.Both as both
 use Rattle.follow.proofs.Ends.{at-most, other, other-slots, over}
 use Rattle.follow.proofs.Shown.{bytes}
 use Rattle.follow.proofs.Whole.{replays}
+use Rattle.follow.proofs.Always.{always}
+use Rattle.follow.proofs.Examples.{empty, four, greetings}
 
 -- ---- a start is one of the port's
 
@@ -101,69 +87,22 @@ of-the-calls = record {
   over = over;
 }
 
--- ---- some calls
+-- ---- the whole text of the camera side's run
 
-abbrev room : List ℕ
-room = replicate 3000 0
+one-text : (letter : ℕ) (input : List ℕ) → replayBoth false (startRuns letter .runs) input ≡ replayWith (startWith letter .run) input
+one-text letter input = both.without (startRuns letter .runs) input ∙ ap (λ (r : Run). replayWith r input) (each-call .start-run letter Camera)
 
--- what is left of the input, fed piece by piece
-record Feeds (f : Follower) (s : List ℕ) : Type 0 where
-  to : Follower
-  told : List ℕ
-  fed : Fed f s told to
-  valid : validFollower to ≡ true
+one-replays : (letter : ℕ) (input text : List ℕ) → Replays letter false input text → text ≡ replayWith (startWith letter .run) input
+one-replays letter input text p = replays letter false input text p ∙ one-text letter input
 
-feeds-by : (fuel : ℕ) → ((g : Follower) (t : List ℕ) → length t ≤ fuel → validFollower g ≡ true → Feeds g t) →
-    (f : Follower) (s : List ℕ) → length s ≤ suc fuel → validFollower f ≡ true → Feeds f s
-feeds-by fuel more f [] h v = record { to = f; told = []; fed = no-more; valid = v }
-feeds-by fuel more f (b ∷ s) h v =
-    let n = each-call .goes-on f (b ∷ s) room v (omega arith) in
-    let some = each-call .uses-some f (b ∷ s) room (n .0) (n .1) (omega arith) in
-    let u = takeOf f (b ∷ s) room .used in
-    let i = more (takeOf f (b ∷ s) room .follower) (drop u (b ∷ s)) (simp length-drop (omega arith)) (each-call .kept-valid f (b ∷ s) room v) in
-    record {
-      to = i .to;
-      told = take (n .0) (takeLeaves f (b ∷ s) room) ++ i .told;
-      fed = subst (λ (x : List ℕ). Fed f x (take (n .0) (takeLeaves f (b ∷ s) room) ++ i .told) (i .to)) (take-append-drop u (b ∷ s))
-          (next f (b ∷ s) room (n .0) _ _ _ (n .1) (i .fed));
-      valid = i .valid;
-    }
-
-feeds : (fuel : ℕ) (f : Follower) (s : List ℕ) → length s ≤ fuel → validFollower f ≡ true → Feeds f s
-feeds zero f s h v = none s h
-  where
-    none : (t : List ℕ) → length t ≤ 0 → Feeds f t
-    none [] k = record { to = f; told = []; fed = no-more; valid = v }
-    none (b ∷ t) k = absurd (omega arith)
-feeds (suc fuel) f s h v = feeds-by fuel (feeds fuel) f s h v
-
-always : (letter : ℕ) (input : List ℕ) → startWith letter .verdict ≡ Done → Replays letter input (replayWith (startWith letter .run) input)
-always letter input d =
-    let v = and-both (promised .each-call .start-valid letter d) refl in
-    let i = feeds (length input) (beginsWith letter .follower) input (omega arith) v in
-    let c = each-call .close-goes-on (i .to) room (i .valid) (omega arith) in
-    let w = and-left (validRun (closeOf (i .to) room .follower .run)) _ (each-call .close-valid (i .to) room (i .valid)) in
-    let k = promised .each-call .count-done (closeOf (i .to) room .follower .run) room w (short-line _) in
-    let p : Replays letter input _ =
-    record { accepted = d; left = i .to; told = i .told; fed = i .fed; room = room; closed = c .0; closes = c .1; last-room = room; counted = _; counts = k .0; printed = refl } in
-    subst (Replays letter input) (replays letter input _ p) p
-
--- ---- the request's examples
-
-empty : replayOf [] ≡ 0x73 ∷ 0x6C ∷ 0x6F ∷ 0x74 ∷ 0x73 ∷ 0x20 ∷ 0x30 ∷ 0x0A ∷ []
-unfolding replayWith tellAll lines startWith labelled widthOf digits
-empty = refl
-
-four : replayOf (0x53 ∷ 0x20 ∷ 0x34 ∷ []) ≡
-    0x33 ∷ 0x63 ∷ 0x20 ∷ 0x30 ∷ 0x61 ∷ 0x20 ∷ 0x30 ∷ 0x64 ∷ 0x20 ∷ 0x2D ∷ 0x2D ∷ 0x0A ∷ 0x73 ∷ 0x6C ∷ 0x6F ∷ 0x74 ∷ 0x73 ∷ 0x20 ∷ 0x34 ∷ 0x0A ∷ []
-unfolding replayWith tellAll lines startWith labelled widthOf digits value readDigits readField before behind word spaces sole digitsOf slotsBy within eventOf tellOf tells slotsLeft slotsText afterSlots separator hexDigit startOf startVerdict handed unitOf settingsLowest measurementVerdict measurementLowest figuresLowest frontLowest middleLowest backLowest failing first textOk every kindOk letterOk lensLowest fixedLowest byUnit stopOk slotOf sendFrom chooseOf restOf actOf movedIf validPort validSource validMessage validModes stateZeros lineZeros written isOn
-four = refl
+one-always : (letter : ℕ) (input : List ℕ) → startWith letter .verdict ≡ Done → Replays letter false input (replayWith (startWith letter .run) input)
+one-always letter input d = subst (Replays letter false input) (one-text letter input) (always letter false input (each-call .start-verdict letter ∙ d))
 
 pub whole-text : WholeText
 unfolding tellAll replayWith
 whole-text = record {
-  replays = replays;
-  always = always;
+  replays = one-replays;
+  always = one-always;
   no-line = λ r. refl;
   line = λ r l ls. refl;
   last-line = λ r input. refl;
@@ -174,9 +113,29 @@ whole-text = record {
 
 pub entries : Entries
 entries = record {
-  start = λ letter r h. h;
+  start = λ letter ports r h. h;
   take = λ f piece out r after h. (h .answers, h .leaves);
   close = λ f out r after h. (h .answers, h .leaves);
   count = λ r out w after h. (h .answers, h .leaves);
   is-over = λ r b h. h;
+}
+
+-- ---- with port numbers
+
+pub with-ports : WithPorts
+unfolding tellBoth replayBoth
+with-ports = record {
+  replays = replays;
+  always = always;
+  no-line = λ ports r. refl;
+  line = λ ports r l ls. refl;
+  last-line = λ ports r input. refl;
+  without = both.without;
+  unnumbered = both.unnumbered;
+  same-text = λ letter input text h p. replays letter true input text p ∙ both.unnumbered (startRuns letter .runs) input h ∙ one-text letter input;
+  at-most = both.at-most;
+  other = both.other;
+  other-slots = both.other-slots;
+  over = both.over;
+  greetings = greetings;
 }

@@ -228,7 +228,7 @@ shows-event r (Slots n) =
 shows-event r (Measured m) = shows-verdict (measureOf (r .port) m .verdict)
 shows-event r Other = shows-refused Form
 
-shows-told : (r : Run) (e : Event) → Shows (tellOf r e .text) (bytesAll (heldBy r) (callsOf r e))
+pub shows-told : (r : Run) (e : Event) → Shows (tellOf r e .text) (bytesAll (heldBy r) (callsOf r e))
 unfolding tellOf callsOf bytesAll
 shows-told r e = both (λ (t : Telling) (cs : List Call). Shows (t .text) (bytesAll (heldBy r) cs)) (isOver r) shows-none (shows-event r e)
 

@@ -9,8 +9,8 @@ use Rattle.follow.specs.declared.Follower.{Follower}
 use Rattle.follow.specs.declared.Begun.{Begun}
 use Rattle.follow.specs.declared.Followed.{Followed}
 
-pub one-start : (letter : ℕ) {r r′ : Begun} → FollowerStart letter r → FollowerStart letter r′ → r ≡ r′
-one-start letter = one-answer
+pub one-start : (letter : ℕ) (ports : Bool) {r r′ : Begun} → FollowerStart letter ports r → FollowerStart letter ports r′ → r ≡ r′
+one-start letter ports = one-answer
 
 pub one-is-valid : (self : Follower) {r r′ : Bool} → FollowerIsValid self r → FollowerIsValid self r′ → r ≡ r′
 one-is-valid self = one-answer

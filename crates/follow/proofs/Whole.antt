@@ -1,5 +1,6 @@
 -- However the pieces fall, the calls print what the lines of the whole text tell: the follower has the line that has not ended yet. Assumes nothing.
 use Prim.Native.Nat.{ℕ, _+_, _≤_, _<_}
+use mathlib.Core.Bool.{Bool}
 use mathlib.Core.List.{List, [], _∷_, _++_, append-assoc, append-nil}
 use mathlib.Core.Path.{_≡_, refl, sym, ap, ap₂, subst, _∙_}
 use native.Mathlib.Numerals.{add-one}
@@ -13,15 +14,15 @@ use Rattle.laws.proofs.OverLaws.{take-over}
 use Rattle.laws.proofs.Tests.{told, never}
 use Rattle.frame.specs.declared.Wrote.the-variants.{Count}
 use Rattle.capture.specs.Words.{before}
-use Rattle.capture.specs.Capture.{eventOf}
-use Rattle.capture.specs.declared.Event.{Event}
-use Rattle.capture.proofs.Long.{first-136}
 use Rattle.printed.specs.Printed.{LF, slotsLine}
-use Rattle.telling.specs.Telling.{startWith, validRun, Telling, tellOf, countOf, countLeaves}
-use Rattle.telling.specs.declared.Run.{Run}
-use Rattle.telling.proofs.Promises.{each-call}
-use Rattle.follow.specs.Replay.{lines, tellAll, replayWith}
-use Rattle.follow.specs.Follow.{heldLength, blankText, heldIn, joinedText, holdOf, lineIn, takeOf, takeLeaves, closeOf, closeLeaves}
+use Rattle.runs.specs.Runs.{eventAt, startRuns, validRuns, TellingAt, tellAt, countBoth, countBothLeaves}
+use Rattle.runs.specs.declared.Addressed.{Addressed}
+use Rattle.runs.specs.declared.Runs.{Runs}
+use Rattle.runs.proofs.Ports.{first-138}
+use Rattle.runs.proofs.Promises.{each-call}
+use Rattle.follow.specs.Replay.{lines}
+use Rattle.follow.specs.Both.{tellBoth, replayBoth}
+use Rattle.follow.specs.Follow.{heldLength, blankText, heldIn, joinedText, holdOf, lineIn, eventIn, takeOf, takeLeaves, closeOf, closeLeaves}
 use Rattle.follow.specs.Calls.{Fed, no-more, next, Replays}
 use Rattle.follow.specs.Promises.{Unbroken}
 use Rattle.follow.specs.declared.Follower.{Follower}
@@ -29,6 +30,7 @@ use Rattle.follow.specs.declared.Followed.{Followed}
 use Rattle.follow.proofs.Laws.{Sound, held-long, held-joined, joined-sound}
 use Rattle.follow.proofs.Lines.{unbroken-append, unbroken-first, with-lf, ended, last}
 use Rattle.follow.proofs.Each.{toldTo, ending, Took, invalid, held, whole, short, took, unended, Closed, no-line, closed}
+use Rattle.follow.proofs.Both.{ahead}
 
 -- ---- the line that has not ended
 
@@ -41,9 +43,9 @@ pub record Has (w : List ℕ) (f : Follower) : Type 0 where
 zeros-long : length (blankText .bytes) ≡ heldLength
 zeros-long = refl
 
-pub has-none : (r : Run) → Has [] (record { run = r; text = blankText })
+has-none : (r : Runs) (ports : Bool) → Has [] (record { runs = r; text = blankText; ports = ports })
 unfolding before
-has-none r = record { unbroken = refl; sound = record { long = zeros-long; few = omega arith }; kept = refl }
+has-none r ports = record { unbroken = refl; sound = record { long = zeros-long; few = omega arith }; kept = refl }
 
 -- more bytes, of which the first ones are known
 kept-append : (w a : List ℕ) → take heldLength (take heldLength w ++ a) ≡ take heldLength (w ++ a)
@@ -55,7 +57,7 @@ kept-append w a =
     take-at (take heldLength w) a heldLength (length-take-le heldLength w (omega arith)) ∙ sym (take-append-le heldLength w a (omega arith)))
 
 module _ {w : List ℕ} {f : Follower} (h : Has w f) (a : List ℕ) where
-  has-more : Unbroken a → Has (w ++ a) (record { run = f .run; text = joinedText (f .text) a })
+  has-more : Unbroken a → Has (w ++ a) (record { runs = f .runs; text = joinedText (f .text) a; ports = f .ports })
   has-more u = record {
     unbroken = unbroken-append w a (h .unbroken) u;
     sound = joined-sound (f .text) a (h .sound);
@@ -63,28 +65,30 @@ module _ {w : List ℕ} {f : Follower} (h : Has w f) (a : List ℕ) where
   }
 
   -- they tell the event of the whole line
-  same-event : eventOf (lineIn f a) ≡ eventOf (w ++ a)
+  same-event : eventIn f a ≡ eventAt (f .ports) (w ++ a)
   same-event =
-      sym (first-136 (lineIn f a))
-      ∙ ap eventOf (ap (λ (x : List ℕ). take heldLength (x ++ a)) (h .kept) ∙ kept-append w a)
-      ∙ first-136 (w ++ a)
+      sym (first-138 (f .ports) (lineIn f a))
+      ∙ ap (eventAt (f .ports)) (ap (λ (x : List ℕ). take heldLength (x ++ a)) (h .kept) ∙ kept-append w a)
+      ∙ first-138 (f .ports) (w ++ a)
 
 -- ---- the calls
 
-abbrev pub ahead : List ℕ → Telling → Telling
-ahead t u = record { text = t ++ u .text; run = u .run }
+-- what the lines of a text tell from a follower's runs on
+abbrev tellsFrom : Follower → List ℕ → TellingAt
+tellsFrom f s = tellBoth (f .ports) (f .runs) (lines s)
 
 -- calls from f, which has w, to g: whatever follows, they tell the first of it
 record Comes (w : List ℕ) (f : Follower) (s t : List ℕ) (g : Follower) : Type 0 where
   left : List ℕ
   has : Has left g
-  tells : (rest : List ℕ) → tellAll (f .run) (lines (w ++ (s ++ rest))) ≡ ahead t (tellAll (g .run) (lines (left ++ rest)))
+  tells : (rest : List ℕ) → tellsFrom f (w ++ (s ++ rest)) ≡ ahead t (tellsFrom g (left ++ rest))
 
 -- a line that ended, and what follows it
-first-line : (r : Run) (l s : List ℕ) → Unbroken l →
-    tellAll r (lines (l ++ LF ∷ s)) ≡ ahead (tellOf r (eventOf l) .text) (tellAll (tellOf r (eventOf l) .run) (lines s))
-unfolding tellAll
-first-line r l s u = ap (tellAll r) (ended l s u)
+first-line : (ports : Bool) (r : Runs) (l s : List ℕ) → Unbroken l →
+    let t = tellAt r (eventAt ports l) in
+    tellBoth ports r (lines (l ++ LF ∷ s)) ≡ ahead (t .text) (tellBoth ports (t .runs) (lines s))
+unfolding tellBoth
+first-line ports r l s u = ap (tellBoth ports r) (ended l s u)
 
 -- a piece in which no line ends
 module _ {w : List ℕ} (f : Follower) (piece out : List ℕ) (n : ℕ) (s t : List ℕ) (g : Follower) (h : Has w f)
@@ -98,12 +102,12 @@ module _ {w : List ℕ} (f : Follower) (piece out : List ℕ) (n : ℕ) (s t : L
         left = i .left;
         has = i .has;
         tells = λ rest.
-            ap (λ (x : List ℕ). tellAll (f .run) (lines (w ++ ((x ++ s) ++ rest)))) all
-            ∙ ap (λ (x : List ℕ). tellAll (f .run) (lines (w ++ x))) (append-assoc piece s rest)
-            ∙ ap (λ (x : List ℕ). tellAll (f .run) (lines x)) (sym (append-assoc w piece (s ++ rest)))
-            ∙ ap (λ (x : Followed). tellAll (x .follower .run) (lines ((w ++ piece) ++ (s ++ rest)))) (sym e)
+            ap (λ (x : List ℕ). tellsFrom f (w ++ ((x ++ s) ++ rest))) all
+            ∙ ap (λ (x : List ℕ). tellsFrom f (w ++ x)) (append-assoc piece s rest)
+            ∙ ap (tellsFrom f) (sym (append-assoc w piece (s ++ rest)))
+            ∙ ap (λ (x : Followed). tellsFrom (x .follower) ((w ++ piece) ++ (s ++ rest))) (sym e)
             ∙ i .tells rest
-            ∙ sym (ap (λ (k : ℕ). ahead (take k (takeLeaves f piece out) ++ t) (tellAll (g .run) (lines (i .left ++ rest)))) z);
+            ∙ sym (ap (λ (k : ℕ). ahead (take k (takeLeaves f piece out) ++ t) (tellsFrom g (i .left ++ rest))) z);
       }
 
   -- and one in which the line ends
@@ -111,7 +115,7 @@ module _ {w : List ℕ} (f : Follower) (piece out : List ℕ) (n : ℕ) (s t : L
   a = take (before LF piece) piece
 
   whole-comes : before LF piece < length piece → length (ending f piece out .text) ≤ length out →
-      takeOf f piece out ≡ toldTo (ending f piece out) (before LF piece + 1) → takeLeaves f piece out ≡ over out 0 (ending f piece out .text) →
+      takeOf f piece out ≡ toldTo f (ending f piece out) (before LF piece + 1) → takeLeaves f piece out ≡ over out 0 (ending f piece out .text) →
       Comes [] (takeOf f piece out .follower) s t g →
       Comes w f (take (takeOf f piece out .used) piece ++ s) (take n (takeLeaves f piece out) ++ t) g
   whole-comes low room e l i =
@@ -125,14 +129,14 @@ module _ {w : List ℕ} (f : Follower) (piece out : List ℕ) (n : ℕ) (s t : L
         left = i .left;
         has = i .has;
         tells = λ rest.
-            ap (λ (y : List ℕ). tellAll (f .run) (lines (w ++ ((y ++ s) ++ rest)))) used
-            ∙ ap (λ (y : List ℕ). tellAll (f .run) (lines y)) (joins rest)
-            ∙ first-line (f .run) (w ++ a) (s ++ rest) (unbroken-append w a (h .unbroken) (unbroken-first piece))
-            ∙ ap (λ (y : Event). ahead (tellOf (f .run) y .text) (tellAll (tellOf (f .run) y .run) (lines (s ++ rest)))) (sym (same-event h a))
-            ∙ ap (λ (y : Followed). ahead (x .text) (tellAll (y .follower .run) (lines (s ++ rest)))) (sym e)
+            ap (λ (y : List ℕ). tellsFrom f (w ++ ((y ++ s) ++ rest))) used
+            ∙ ap (tellsFrom f) (joins rest)
+            ∙ first-line (f .ports) (f .runs) (w ++ a) (s ++ rest) (unbroken-append w a (h .unbroken) (unbroken-first piece))
+            ∙ ap (λ (y : Addressed). ahead (tellAt (f .runs) y .text) (tellBoth (f .ports) (tellAt (f .runs) y .runs) (lines (s ++ rest)))) (sym (same-event h a))
+            ∙ ap (λ (y : Followed). ahead (x .text) (tellsFrom (y .follower) (s ++ rest))) (sym e)
             ∙ ap (ahead (x .text)) (i .tells rest)
-            ∙ ap (λ (y : List ℕ). record { text = y; run = tellAll (g .run) (lines (i .left ++ rest)) .run }) (sym (append-assoc (x .text) t _))
-            ∙ sym (ap (λ (y : List ℕ). ahead (y ++ t) (tellAll (g .run) (lines (i .left ++ rest)))) text);
+            ∙ ap (λ (y : List ℕ). record { text = y; runs = tellsFrom g (i .left ++ rest) .runs }) (sym (append-assoc (x .text) t _))
+            ∙ sym (ap (λ (y : List ℕ). ahead (y ++ t) (tellsFrom g (i .left ++ rest))) text);
       }
     where
       joins : (rest : List ℕ) → w ++ (((a ++ LF ∷ []) ++ s) ++ rest) ≡ (w ++ a) ++ LF ∷ (s ++ rest)
@@ -147,7 +151,7 @@ comes-by {w} f piece out n s t g h c i (held v q e l) =
     held-comes f piece out n s t g h c e (i (w ++ piece) (subst (Has (w ++ piece)) (ap (λ (x : Followed). x .follower) (sym e)) (has-more h piece q)))
 comes-by f piece out n s t g h c i (whole v low room e l) =
     whole-comes f piece out n s t g h c low room e l
-    (i [] (subst (Has []) (ap (λ (x : Followed). x .follower) (sym e)) (has-none (ending f piece out .run))))
+    (i [] (subst (Has []) (ap (λ (x : Followed). x .follower) (sym e)) (has-none (ending f piece out .runs) (f .ports))))
 comes-by f piece out n s t g h c i (short v low room e l) = never (cc)
 
 comes : {w : List ℕ} {f : Follower} {s t : List ℕ} {g : Follower} → Fed f s t g → Has w f → Comes w f s t g
@@ -161,35 +165,36 @@ nothing-kept [] e = refl
 nothing-kept (b ∷ w) e = never (cc)
 
 -- one line that has not ended, or none
-alone : (r : Run) (b : ℕ) (l : List ℕ) → Unbroken (b ∷ l) →
-    tellAll r (lines (b ∷ l)) ≡ record { text = tellOf r (eventOf (b ∷ l)) .text ++ []; run = tellOf r (eventOf (b ∷ l)) .run }
-unfolding tellAll
-alone r b l u = ap (tellAll r) (last b l u)
+alone : (ports : Bool) (r : Runs) (b : ℕ) (l : List ℕ) → Unbroken (b ∷ l) →
+    let t = tellAt r (eventAt ports (b ∷ l)) in
+    tellBoth ports r (lines (b ∷ l)) ≡ record { text = t .text ++ []; runs = t .runs }
+unfolding tellBoth
+alone ports r b l u = ap (tellBoth ports r) (last b l u)
 
 -- the close tells it
 record Tells (w : List ℕ) (f : Follower) (out : List ℕ) (n : ℕ) : Type 0 where
-  text : take n (closeLeaves f out) ≡ tellAll (f .run) (lines w) .text
-  run : closeOf f out .follower .run ≡ tellAll (f .run) (lines w) .run
+  text : take n (closeLeaves f out) ≡ tellsFrom f w .text
+  runs : closeOf f out .follower .runs ≡ tellsFrom f w .runs
 
 none-tells : (f : Follower) (out : List ℕ) (n : ℕ) → n ≡ 0 → closeOf f out .follower ≡ f → Tells [] f out n
-unfolding lines tellAll
-none-tells f out n z e = record { text = ap (λ (k : ℕ). take k (closeLeaves f out)) z; run = ap (λ (x : Follower). x .run) e }
+unfolding lines tellBoth
+none-tells f out n z e = record { text = ap (λ (k : ℕ). take k (closeLeaves f out)) z; runs = ap (λ (x : Follower). x .runs) e }
 
 line-tells : (w : List ℕ) (f : Follower) (out : List ℕ) (n : ℕ) → Has w f → (f .text .len ≡ 0 → ⊥) → n ≡ length (unended f out .text) →
-    length (unended f out .text) ≤ length out → closeOf f out .follower .run ≡ unended f out .run → closeLeaves f out ≡ over out 0 (unended f out .text) →
+    length (unended f out .text) ≤ length out → closeOf f out .follower .runs ≡ unended f out .runs → closeLeaves f out ≡ over out 0 (unended f out .text) →
     Tells w f out n
 line-tells [] f out n h some z room e l = absurd (some (sym (held-long (h .sound)) ∙ ap length (h .kept)))
 line-tells (b ∷ w) f out n h some z room e l =
-    let x = ap eventOf (h .kept) ∙ first-136 (b ∷ w) in
-    let one = alone (f .run) b w (h .unbroken) in
+    let x = ap (eventAt (f .ports)) (h .kept) ∙ first-138 (f .ports) (b ∷ w) in
+    let one = alone (f .ports) (f .runs) b w (h .unbroken) in
     record {
       text =
           ap₂ take z l
           ∙ take-over out (unended f out .text) (length (unended f out .text)) refl room
-          ∙ ap (λ (y : Event). tellOf (f .run) y .text) x
+          ∙ ap (λ (y : Addressed). tellAt (f .runs) y .text) x
           ∙ sym (append-nil _)
-          ∙ sym (ap (λ (t : Telling). t .text) one);
-      run = e ∙ ap (λ (y : Event). tellOf (f .run) y .run) x ∙ sym (ap (λ (t : Telling). t .run) one);
+          ∙ sym (ap (λ (t : TellingAt). t .text) one);
+      runs = e ∙ ap (λ (y : Addressed). tellAt (f .runs) y .runs) x ∙ sym (ap (λ (t : TellingAt). t .runs) one);
     }
 
 close-tells : (w : List ℕ) (f : Follower) (out : List ℕ) (n : ℕ) → Has w f → closeOf f out .wrote ≡ Count n → Closed f out → Tells w f out n
@@ -197,14 +202,14 @@ close-tells w f out n h c (invalid v e l) = never (cc)
 close-tells w f out n h c (no-line v z e l) =
     let nothing : w ≡ [] = nothing-kept w (sym (h .kept) ∙ ap (λ (k : ℕ). take k (f .text .bytes)) z) in
     subst (λ (x : List ℕ). Tells x f out n) (sym nothing) (none-tells f out n (cc) (ap (λ (x : Followed). x .follower) e))
-close-tells w f out n h c (whole v some room e l) = line-tells w f out n h some (cc) room (ap (λ (x : Followed). x .follower .run) e) l
+close-tells w f out n h c (whole v some room e l) = line-tells w f out n h some (cc) room (ap (λ (x : Followed). x .follower .runs) e) l
 close-tells w f out n h c (short v some room e l) = never (cc)
 
 -- the last line
-count-tells : (r : Run) (out : List ℕ) (n : ℕ) → countOf r out ≡ Count n → take n (countLeaves r out) ≡ slotsLine (r .slots)
+count-tells : (r : Runs) (out : List ℕ) (n : ℕ) → countBoth r out ≡ Count n → take n (countBothLeaves r out) ≡ slotsLine (r .slots)
 count-tells r out n c =
     let line = slotsLine (r .slots) in
-    told (validRun r)
+    told (validRuns r)
     (λ v.
     told (leb (length line) (length out))
     (λ y.
@@ -217,18 +222,18 @@ count-tells r out n c =
 
 -- ---- the whole
 
-pub replays : (letter : ℕ) (input text : List ℕ) → Replays letter input text → text ≡ replayWith (startWith letter .run) input
-unfolding replayWith
-replays letter input text p =
-    let r = startWith letter .run in
-    let i = comes (p .fed) (has-none r) in
+pub replays : (letter : ℕ) (ports : Bool) (input text : List ℕ) → Replays letter ports input text → text ≡ replayBoth ports (startRuns letter .runs) input
+unfolding replayBoth
+replays letter ports input text p =
+    let r = startRuns letter .runs in
+    let i = comes (p .fed) (has-none r ports) in
     let f = p .left in
     let x = close-tells (i .left) f (p .room) (p .closed) (i .has) (p .closes) (closed f (p .room)) in
-    let u = tellAll (f .run) (lines (i .left)) in
-    let all : tellAll r (lines input) ≡ ahead (p .told) u =
-    ap (λ (s : List ℕ). tellAll r (lines s)) (sym (append-nil input)) ∙ i .tells [] ∙ ap (λ (s : List ℕ). ahead (p .told) (tellAll (f .run) (lines s))) (append-nil (i .left)) in
-    let end = count-tells (closeOf f (p .room) .follower .run) (p .last-room) (p .counted) (p .counts) ∙ ap (λ (q : Run). slotsLine (q .slots)) (x .run) in
+    let u = tellsFrom f (i .left) in
+    let all : tellBoth ports r (lines input) ≡ ahead (p .told) u =
+    ap (λ (s : List ℕ). tellBoth ports r (lines s)) (sym (append-nil input)) ∙ i .tells [] ∙ ap (λ (s : List ℕ). ahead (p .told) (tellsFrom f s)) (append-nil (i .left)) in
+    let end = count-tells (closeOf f (p .room) .follower .runs) (p .last-room) (p .counted) (p .counts) ∙ ap (λ (q : Runs). slotsLine (q .slots)) (x .runs) in
     p .printed
     ∙ ap₂ (λ (s t : List ℕ). p .told ++ (s ++ t)) (x .text) end
-    ∙ sym (append-assoc (p .told) (u .text) (slotsLine (u .run .slots)))
-    ∙ sym (ap (λ (t : Telling). t .text ++ slotsLine (t .run .slots)) all)
+    ∙ sym (append-assoc (p .told) (u .text) (slotsLine (u .runs .slots)))
+    ∙ sym (ap (λ (t : TellingAt). t .text ++ slotsLine (t .runs .slots)) all)

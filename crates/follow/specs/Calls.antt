@@ -1,6 +1,6 @@
 -- A replay as its calls: those of whoever lends the text, and those of the port that the lines come to.
 use Prim.Native.Nat.{ℕ, _+_, _-_, _*_}
-use mathlib.Core.Bool.{cond}
+use mathlib.Core.Bool.{Bool, cond}
 use mathlib.Core.List.{List, [], _∷_, _++_}
 use mathlib.Core.Path.{_≡_}
 use lib.Dec.{ltb, leb, eqb}
@@ -13,8 +13,9 @@ use Rattle.capture.specs.Capture.{eventOf}
 use Rattle.capture.specs.declared.Event.{Event}
 use Rattle.capture.specs.declared.Event.the-variants.{Received, Slots, Measured, Other}
 use Rattle.printed.specs.Printed.{LF}
-use Rattle.telling.specs.Telling.{isOver, slotsLeft, tellOf, countOf, countLeaves}
+use Rattle.telling.specs.Telling.{isOver, slotsLeft, tellOf}
 use Rattle.telling.specs.declared.Run.{Run}
+use Rattle.runs.specs.Runs.{countBoth, countBothLeaves}
 use Rattle.follow.specs.Follow.{beginsWith, takeOf, takeLeaves, closeOf, closeLeaves}
 use Rattle.follow.specs.declared.Follower.{Follower}
 
@@ -28,18 +29,18 @@ pub data Fed : Follower → List ℕ → List ℕ → Follower → Type 0 where
       Fed f (take (takeOf f piece out .used) piece ++ s) (take n (takeLeaves f piece out) ++ t) g
 
 -- a start, any calls over the whole input, the end of the text, and the last line
-pub record Replays (letter : ℕ) (input text : List ℕ) : Type 0 where
-  pub accepted : beginsWith letter .verdict ≡ Done
+pub record Replays (letter : ℕ) (ports : Bool) (input text : List ℕ) : Type 0 where
+  pub accepted : beginsWith letter ports .verdict ≡ Done
   pub left : Follower
   pub told : List ℕ
-  pub fed : Fed (beginsWith letter .follower) input told left
+  pub fed : Fed (beginsWith letter ports .follower) input told left
   pub room : List ℕ
   pub closed : ℕ
   pub closes : closeOf left room .wrote ≡ Count closed
   pub last-room : List ℕ
   pub counted : ℕ
-  pub counts : countOf (closeOf left room .follower .run) last-room ≡ Count counted
-  pub printed : text ≡ told ++ (take closed (closeLeaves left room) ++ take counted (countLeaves (closeOf left room .follower .run) last-room))
+  pub counts : countBoth (closeOf left room .follower .runs) last-room ≡ Count counted
+  pub printed : text ≡ told ++ (take closed (closeLeaves left room) ++ take counted (countBothLeaves (closeOf left room .follower .runs) last-room))
 
 -- ---- the port's calls
 

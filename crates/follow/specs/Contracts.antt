@@ -9,8 +9,8 @@ use Rattle.follow.specs.declared.Follower.{Follower}
 use Rattle.follow.specs.declared.Begun.{Begun}
 use Rattle.follow.specs.declared.Followed.{Followed}
 
-abbrev pub FollowerStart : ℕ → Begun → Type 0
-FollowerStart letter r = r ≡ beginsWith letter
+abbrev pub FollowerStart : ℕ → Bool → Begun → Type 0
+FollowerStart letter ports r = r ≡ beginsWith letter ports
 
 abbrev pub FollowerIsValid : Follower → Bool → Type 0
 FollowerIsValid self r = r ≡ validFollower self

@@ -8,11 +8,11 @@ use Rattle.refusal.specs.declared.Refusal.the-variants.{State}
 use Rattle.frame.specs.declared.Wrote.{Wrote}
 use Rattle.frame.specs.declared.Wrote.the-variants as wrote
 use Rattle.capture.specs.Words.{before}
-use Rattle.capture.specs.Capture.{eventOf}
 use Rattle.printed.specs.Printed.{LF}
-use Rattle.telling.specs.Telling.{startWith, validRun, toldOf, toldLeaves}
-use Rattle.telling.specs.declared.Run.{Run}
-use Rattle.telling.specs.declared.Told.{Told}
+use Rattle.runs.specs.Runs.{eventAt, startRuns, validRuns, toldAt, toldAtLeaves}
+use Rattle.runs.specs.declared.Addressed.{Addressed}
+use Rattle.runs.specs.declared.Runs.{Runs}
+use Rattle.runs.specs.declared.ToldAt.{ToldAt}
 use Rattle.follow.specs.declared.Text.{Text}
 use Rattle.follow.specs.declared.Follower.{Follower}
 use Rattle.follow.specs.declared.Begun.{Begun}
@@ -22,7 +22,7 @@ use Rattle.follow.specs.declared.Followed.{Followed}
 
 -- one more than a line of an event has at most: a longer one is known by its first bytes
 abbrev pub heldLength : ℕ
-heldLength = 136
+heldLength = 138
 
 abbrev pub blankText : Text
 blankText = record { bytes = replicate heldLength 0; len = 0 }
@@ -44,45 +44,59 @@ joinedText t (b ∷ s) = joinedText (joins t b) s
 
 -- ---- a call
 
-abbrev pub beginsWith : ℕ → Begun
-beginsWith letter = record { verdict = startWith letter .verdict; follower = record { run = startWith letter .run; text = blankText } }
+abbrev pub beginsWith : ℕ → Bool → Begun
+beginsWith letter ports = record {
+  verdict = startRuns letter .verdict;
+  follower = record { runs = startRuns letter .runs; text = blankText; ports = ports };
+}
 
--- 16 covers the run and the count of the line
+-- 16 covers the runs and the count of the line
 abbrev pub validFollower : Follower → Bool
-validFollower f = validRun (f .run) && validText (f .text)
+validFollower f = validRuns (f .runs) && validText (f .text)
 
 -- once a line was told: no line yet; where that was refused, as it was
-abbrev pub followedAs : Follower → Run → ℕ → Wrote → Followed
-followedAs f run used (wrote.Count n) = record { wrote = wrote.Count n; used = used; follower = record { run = run; text = blankText } }
-followedAs f run used (wrote.Refused r) = record { wrote = wrote.Refused r; used = 0; follower = f }
+abbrev pub followedAs : Follower → Runs → ℕ → Wrote → Followed
+followedAs f runs used (wrote.Count n) = record { wrote = wrote.Count n; used = used; follower = record { runs = runs; text = blankText; ports = f .ports } }
+followedAs f runs used (wrote.Refused r) = record { wrote = wrote.Refused r; used = 0; follower = f }
 
-abbrev pub followedBy : Follower → Told → ℕ → Followed
-followedBy f told used = followedAs f (told .run) used (told .wrote)
+abbrev pub followedBy : Follower → ToldAt → ℕ → Followed
+followedBy f told used = followedAs f (told .runs) used (told .wrote)
 
 abbrev pub refusedState : Follower → Followed
 refusedState f = record { wrote = wrote.Refused State; used = 0; follower = f }
 
 -- a piece in which no line ends
 abbrev pub holdOf : Follower → List ℕ → Followed
-holdOf f piece = record { wrote = wrote.Count 0; used = length piece; follower = record { run = f .run; text = joinedText (f .text) piece } }
+holdOf f piece = record {
+  wrote = wrote.Count 0;
+  used = length piece;
+  follower = record { runs = f .runs; text = joinedText (f .text) piece; ports = f .ports };
+}
 
--- the line that ends with this part
+-- the line that ends with this part, and what it tells
 abbrev pub lineIn : Follower → List ℕ → List ℕ
 lineIn f part = heldIn (f .text) ++ part
+
+abbrev pub eventIn : Follower → List ℕ → Addressed
+eventIn f part = eventAt (f .ports) (lineIn f part)
+
+-- and what the line that has not ended tells
+abbrev pub eventHeld : Follower → Addressed
+eventHeld f = eventAt (f .ports) (heldIn (f .text))
 
 -- the piece up to the first end of a line, or all of it
 unfoldable pub takeOf : Follower → List ℕ → List ℕ → Followed
 takeOf f piece out =
     let end = before LF piece in
     cond (validFollower f)
-    (cond (eqb end (length piece)) (holdOf f piece) (followedBy f (toldOf (f .run) (eventOf (lineIn f (take end piece))) out) (end + 1)))
+    (cond (eqb end (length piece)) (holdOf f piece) (followedBy f (toldAt (f .runs) (eventIn f (take end piece)) out) (end + 1)))
     (refusedState f)
 
 unfoldable pub takeLeaves : Follower → List ℕ → List ℕ → List ℕ
 takeLeaves f piece out =
     let end = before LF piece in
     cond (validFollower f)
-    (cond (eqb end (length piece)) out (toldLeaves (f .run) (eventOf (lineIn f (take end piece))) out))
+    (cond (eqb end (length piece)) out (toldAtLeaves (f .runs) (eventIn f (take end piece)) out))
     out
 
 -- the text has ended: a last line without its LF is told too
@@ -91,9 +105,9 @@ closeOf f out =
     cond (validFollower f)
     (cond (eqb (f .text .len) 0)
     (record { wrote = wrote.Count 0; used = 0; follower = f })
-    (followedBy f (toldOf (f .run) (eventOf (heldIn (f .text))) out) 0))
+    (followedBy f (toldAt (f .runs) (eventHeld f) out) 0))
     (refusedState f)
 
 unfoldable pub closeLeaves : Follower → List ℕ → List ℕ
 closeLeaves f out =
-    cond (validFollower f) (cond (eqb (f .text .len) 0) out (toldLeaves (f .run) (eventOf (heldIn (f .text))) out)) out
+    cond (validFollower f) (cond (eqb (f .text .len) 0) out (toldAtLeaves (f .runs) (eventHeld f) out)) out

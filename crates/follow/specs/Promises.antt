@@ -18,7 +18,6 @@ use Rattle.walk.specs.Calls.{receive, slots-once, measure, after, afterAll, byt
 use Rattle.walk.specs.InCalls.{slotsRun}
 use Rattle.units.specs.declared.Measurement.{Measurement}
 use Rattle.frame.specs.declared.Wrote.{Wrote}
-use Rattle.telling.specs.Contracts.{RunCount, RunIsOver}
 use Rattle.follow.specs.Contracts.{FollowerStart, FollowerTake, FollowerClose}
 use Rattle.follow.specs.declared.Begun.{Begun}
 use Rattle.follow.specs.declared.Followed.{Followed}
@@ -26,10 +25,13 @@ use Rattle.capture.specs.Words.{before}
 use Rattle.capture.specs.Capture.{eventOf}
 use Rattle.capture.specs.declared.Event.the-variants.{Received, Slots, Measured, Other}
 use Rattle.printed.specs.Printed.{LF, refusedText, slotsLine}
-use Rattle.telling.specs.Telling.{startWith, validRun, isOver, tellOf, countOf, countLeaves}
+use Rattle.telling.specs.Telling.{startWith, isOver, tellOf}
 use Rattle.telling.specs.declared.Run.{Run}
+use Rattle.runs.specs.Contracts.{RunsCount, RunsIsOver}
+use Rattle.runs.specs.Runs.{validRuns, areOver, tellAt, countBoth, countBothLeaves}
+use Rattle.runs.specs.declared.Runs.{Runs}
 use Rattle.follow.specs.Replay.{lines, tellAll, replayWith, replayOf}
-use Rattle.follow.specs.Follow.{beginsWith, heldIn, validFollower, lineIn, takeOf, takeLeaves, closeOf, closeLeaves}
+use Rattle.follow.specs.Follow.{beginsWith, validFollower, eventIn, eventHeld, takeOf, takeLeaves, closeOf, closeLeaves}
 use Rattle.follow.specs.Calls.{Replays, heldBy, callsIn, shown}
 use Rattle.follow.specs.declared.Follower.{Follower}
 
@@ -48,10 +50,10 @@ pub record OfLines : Type 0 where
 -- ---- the whole text
 
 pub record WholeText : Type 0 where
-  -- over any calls, "the whole text out is the definition's for the whole text in"
-  pub replays : (letter : ℕ) (input text : List ℕ) → Replays letter input text → text ≡ replayWith (startWith letter .run) input
+  -- over any calls, "the whole text out is the definition's for the whole text in": without `ports`
+  pub replays : (letter : ℕ) (input text : List ℕ) → Replays letter false input text → text ≡ replayWith (startWith letter .run) input
   -- and there are such calls for every input, whatever it is
-  pub always : (letter : ℕ) (input : List ℕ) → startWith letter .verdict ≡ Done → Replays letter input (replayWith (startWith letter .run) input)
+  pub always : (letter : ℕ) (input : List ℕ) → startWith letter .verdict ≡ Done → Replays letter false input (replayWith (startWith letter .run) input)
   -- line by line, and last the slots
   pub no-line : (r : Run) → tellAll r [] ≡ record { text = []; run = r }
   pub line : (r : Run) (l : List ℕ) (ls : List (List ℕ)) →
@@ -102,28 +104,28 @@ pub record OfTheCalls : Type 0 where
 
 pub record EachCall : Type 0 where
   -- a start answers as the run's, and a close leaves no line to be told again
-  pub begins : (letter : ℕ) → beginsWith letter .verdict ≡ startWith letter .verdict
+  pub begins : (letter : ℕ) (ports : Bool) → beginsWith letter ports .verdict ≡ startWith letter .verdict
   pub close-once : (f : Follower) (out : List ℕ) (n : ℕ) → closeOf f out .wrote ≡ wrote.Count n → (closeOf f out .used ≡ 0) × (closeOf f out .follower .text .len ≡ 0)
-  -- 16 exactly for a run or a count of bytes that is none of ours
+  -- 16 exactly for runs or a count of bytes that is none of ours
   pub take-16 : (f : Follower) (piece out : List ℕ) →
-      (takeOf f piece out .wrote ≡ wrote.Refused refusal.State) ↔ ((validRun (f .run) ≡ false) ⊎ (136 < f .text .len))
+      (takeOf f piece out .wrote ≡ wrote.Refused refusal.State) ↔ ((validRuns (f .runs) ≡ false) ⊎ (138 < f .text .len))
   -- then 2, exactly where a line ends and its text is longer than the lent memory, with its length
   pub take-2 : (f : Follower) (piece out : List ℕ) (n : ℕ) →
       (takeOf f piece out .wrote ≡ wrote.Refused (refusal.Room n)) ↔
       ((validFollower f ≡ true) × (before LF piece < length piece) ×
-      (length out < length (tellOf (f .run) (eventOf (lineIn f (take (before LF piece) piece))) .text)) ×
-      (n ≡ length (tellOf (f .run) (eventOf (lineIn f (take (before LF piece) piece))) .text)))
+      (length out < length (tellAt (f .runs) (eventIn f (take (before LF piece) piece)) .text)) ×
+      (n ≡ length (tellAt (f .runs) (eventIn f (take (before LF piece) piece)) .text)))
   -- a refusal uses no byte and changes nothing
   pub take-same : (f : Follower) (piece out : List ℕ) (x : Refusal) → takeOf f piece out .wrote ≡ wrote.Refused x →
       (takeOf f piece out .used ≡ 0) × (takeOf f piece out .follower ≡ f) × (takeLeaves f piece out ≡ out)
   pub close-same : (f : Follower) (out : List ℕ) (x : Refusal) → closeOf f out .wrote ≡ wrote.Refused x →
       (closeOf f out .follower ≡ f) × (closeLeaves f out ≡ out)
   -- a close is refused in the same cases
-  pub close-16 : (f : Follower) (out : List ℕ) → (closeOf f out .wrote ≡ wrote.Refused refusal.State) ↔ ((validRun (f .run) ≡ false) ⊎ (136 < f .text .len))
+  pub close-16 : (f : Follower) (out : List ℕ) → (closeOf f out .wrote ≡ wrote.Refused refusal.State) ↔ ((validRuns (f .runs) ≡ false) ⊎ (138 < f .text .len))
   pub close-2 : (f : Follower) (out : List ℕ) (n : ℕ) →
       (closeOf f out .wrote ≡ wrote.Refused (refusal.Room n)) ↔
-      ((validFollower f ≡ true) × (f .text .len ≢ 0) × (length out < length (tellOf (f .run) (eventOf (heldIn (f .text))) .text)) ×
-      (n ≡ length (tellOf (f .run) (eventOf (heldIn (f .text))) .text)))
+      ((validFollower f ≡ true) × (f .text .len ≢ 0) × (length out < length (tellAt (f .runs) (eventHeld f) .text)) ×
+      (n ≡ length (tellAt (f .runs) (eventHeld f) .text)))
   pub close-goes-on : (f : Follower) (out : List ℕ) → validFollower f ≡ true → 2997 ≤ length out → (n : ℕ) × (closeOf f out .wrote ≡ wrote.Count n)
   pub close-valid : (f : Follower) (out : List ℕ) → validFollower f ≡ true → validFollower (closeOf f out .follower) ≡ true
   -- no call uses more than its piece or prints more than the memory holds; one that is not refused uses some of its piece
@@ -137,9 +139,9 @@ pub record EachCall : Type 0 where
 -- ---- the calls are the entries: what each contract leaves
 
 pub record Entries : Type 0 where
-  pub start : (letter : ℕ) (r : Begun) → FollowerStart letter r → r ≡ beginsWith letter
+  pub start : (letter : ℕ) (ports : Bool) (r : Begun) → FollowerStart letter ports r → r ≡ beginsWith letter ports
   pub take : (f : Follower) (piece out : List ℕ) (r : Followed) (after : List ℕ) → FollowerTake f piece out r after →
       (r ≡ takeOf f piece out) × (after ≡ takeLeaves f piece out)
   pub close : (f : Follower) (out : List ℕ) (r : Followed) (after : List ℕ) → FollowerClose f out r after → (r ≡ closeOf f out) × (after ≡ closeLeaves f out)
-  pub count : (r : Run) (out : List ℕ) (w : Wrote) (after : List ℕ) → RunCount r out w after → (w ≡ countOf r out) × (after ≡ countLeaves r out)
-  pub is-over : (r : Run) (b : Bool) → RunIsOver r b → b ≡ isOver r
+  pub count : (r : Runs) (out : List ℕ) (w : Wrote) (after : List ℕ) → RunsCount r out w after → (w ≡ countBoth r out) × (after ≡ countBothLeaves r out)
+  pub is-over : (r : Runs) (b : Bool) → RunsIsOver r b → b ≡ areOver r

@@ -1,19 +1,19 @@
-// A capture followed as its text comes in, in any pieces: each line is run where it ends.
-use capture::Event;
+// A capture followed as its text comes in, in any pieces: each line is run where it ends, on the port that it names.
 use frame::Wrote;
 use refusal::Refusal;
 use refusal::Verdict;
-use telling::Run;
-use telling::Told;
+use runs::Addressed;
+use runs::Runs;
+use runs::ToldAt;
 ghost use mathlib.Core.Path.{_≡_};
 ghost use mathlib.Core.Bool.{true};
 ghost use mathlib.Core.List.{_++_};
-ghost use Rattle.capture.specs.Capture.{eventOf};
+ghost use Rattle.runs.specs.Runs.{eventAt};
 ghost use Rattle.follow.specs.Follow.{blankText, validText, heldIn, joinedText, followedBy};
 ghost use Rattle.follow.specs.Contracts.{FollowerStart, FollowerIsValid, FollowerTake, FollowerClose};
 
 // The bytes that are kept of a line: one more than a line of an event has at most.
-pub const HELD_LENGTH: usize = 136;
+pub const HELD_LENGTH: usize = 138;
 
 // The first bytes of the line that is coming in.
 pub struct Text {
@@ -22,8 +22,10 @@ pub struct Text {
 }
 
 pub struct Follower {
-    pub run: Run,
+    pub runs: Runs,
     pub text: Text,
+    // A port number may stand before an event.
+    pub ports: bool,
 }
 
 // What a start hands back.
@@ -77,34 +79,35 @@ impl Text {
         text
     }
 
-    // The event that a line tells which ends with this part.
-    fn event(self, part: &[u8]) -> Event
+    // The event that a line tells which ends with this part, and its port.
+    fn event(self, ports: bool, part: &[u8]) -> Addressed
         requires { ⌜ validText self ≡ true ⌝ }
-        ensures { λ r. ⌜ r ≡ eventOf (heldIn self ++ now (part .entry)) ⌝ }
+        ensures { λ r. ⌜ r ≡ eventAt ports (heldIn self ++ now (part .entry)) ⌝ }
     {
         if self.len == 0 {
-            return capture::event_of(part);
+            return runs::event_at(ports, part);
         }
         let text = self.joined(part);
         let bytes = text.bytes;
         let len = text.len;
-        capture::event_of(&bytes[0..len])
+        runs::event_at(ports, &bytes[0..len])
     }
 }
 
 impl Follower {
-    // The session program's lens, started with this start-up letter, and no line yet.
-    pub fn start(letter: u8) -> Begun
-        ensures { λ r. ⌜ FollowerStart letter r ⌝ }
+    // The session program's lens, started with this start-up letter, and no line yet; whether lines may name a port.
+    pub fn start(letter: u8, ports: bool) -> Begun
+        ensures { λ r. ⌜ FollowerStart letter ports r ⌝ }
     {
-        let begun = Run::start(letter);
+        let begun = Runs::start(letter);
         let verdict = begun.verdict;
-        let run = begun.run;
+        let runs = begun.runs;
         Begun {
             verdict,
             follower: Follower {
-                run,
+                runs,
                 text: Text::blank(),
+                ports,
             },
         }
     }
@@ -113,24 +116,25 @@ impl Follower {
     pub fn is_valid(self) -> bool
         ensures { λ r. ⌜ FollowerIsValid self r ⌝ }
     {
-        let run = self.run;
+        let runs = self.runs;
         let text = self.text;
-        run.is_valid() & text.is_kept()
+        runs.is_valid() & text.is_kept()
     }
 
     // The follower once a line was told: no line yet, or, where that was refused, the old one.
-    fn followed(self, told: Told, used: usize) -> Followed
+    fn followed(self, told: ToldAt, used: usize) -> Followed
         ensures { λ r. ⌜ r ≡ followedBy self told used ⌝ }
     {
         let wrote = told.wrote;
-        let run = told.run;
+        let runs = told.runs;
         match wrote {
             Wrote::Count(n) => Followed {
                 wrote: Wrote::Count(n),
                 used,
                 follower: Follower {
-                    run,
+                    runs,
                     text: Text::blank(),
+                    ports: self.ports,
                 },
             },
             Wrote::Refused(r) => Followed {
@@ -153,19 +157,20 @@ impl Follower {
             };
         }
         let end = capture::bytes_before(piece, b'\n');
-        let run = self.run;
+        let runs = self.runs;
         let text = self.text;
         if end == piece.len() {
             return Followed {
                 wrote: Wrote::Count(0),
                 used: end,
                 follower: Follower {
-                    run,
+                    runs,
                     text: text.joined(piece),
+                    ports: self.ports,
                 },
             };
         }
-        let told = run.tell(text.event(&piece[0..end]), out);
+        let told = runs.tell(text.event(self.ports, &piece[0..end]), out);
         self.followed(told, end + 1)
     }
 
@@ -180,7 +185,7 @@ impl Follower {
                 follower: self,
             };
         }
-        let run = self.run;
+        let runs = self.runs;
         let text = self.text;
         if text.len == 0 {
             return Followed {
@@ -189,7 +194,7 @@ impl Follower {
                 follower: self,
             };
         }
-        let told = run.tell(text.event(b""), out);
+        let told = runs.tell(text.event(self.ports, b""), out);
         self.followed(told, 0)
     }
 }

@@ -15,7 +15,7 @@ use Rattle.laws.proofs.Tests.{told, never}
 use Rattle.refusal.proofs.Answers.{refused-is}
 use Rattle.refusal.specs.Answer.{accepted, refused, unless}
 use Rattle.refusal.specs.declared.Refusal.{Refusal}
-use Rattle.refusal.specs.declared.Refusal.the-variants.{Field, Room, Length, End, Checksum, Contents, Dropped, Setting, TooLong, Form, Lost, State}
+use Rattle.refusal.specs.declared.Refusal.the-variants.{Field, Room, Length, End, Checksum, Contents, Dropped, Setting, TooLong, Form, Lost, NoPort, State}
 use Rattle.refusal.specs.declared.Verdict.the-variants.{Done, Refused}
 use Rattle.codec.specs.Codec.{Got, got, wrong, Codec, spellings}
 use Rattle.codec.specs.Places.{Place, FirstWrong}
@@ -127,6 +127,7 @@ module _ {A : Type 0} (c : Codec A) (rule : A → ℕ) (w : ℕ) (places : List 
     read-given TooLong h = absurd h
     read-given Form h = absurd h
     read-given Lost h = absurd h
+    read-given NoPort h = absurd h
     read-given State h = absurd h
 
     -- a reader that refuses has a case

@@ -8,7 +8,7 @@ use mathlib.Core.Path.{_≡_}
 use lib.ListN.{length}
 use Rattle.refusal.specs.Answer.{accepted, refused}
 use Rattle.refusal.specs.declared.Refusal.{Refusal}
-use Rattle.refusal.specs.declared.Refusal.the-variants.{Field, Room, Length, End, Checksum, Contents, Dropped, Setting, TooLong, Form, Lost, State}
+use Rattle.refusal.specs.declared.Refusal.the-variants.{Field, Room, Length, End, Checksum, Contents, Dropped, Setting, TooLong, Form, Lost, NoPort, State}
 use Rattle.codec.specs.Codec.{Codec, spellings}
 use Rattle.codec.specs.Places.{Place, FirstWrong}
 use Rattle.frame.specs.Frame.{framed}
@@ -46,6 +46,7 @@ module _ {A : Type 0} (rule : A → ℕ) (spellings : A → List (List ℕ)) (pl
   ReadWhen TooLong = ⊥
   ReadWhen Form = ⊥
   ReadWhen Lost = ⊥
+  ReadWhen NoPort = ⊥
   ReadWhen State = ⊥
 
 -- ---- a writer is handed contents and lent memory

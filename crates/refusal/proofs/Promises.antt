@@ -7,7 +7,7 @@ use lib.Dec.{eqb}
 use Rattle.refusal.specs.Refusal.{numberOf, valueOf}
 use Rattle.refusal.specs.Promises.{Numbers}
 use Rattle.refusal.specs.declared.Refusal.{Refusal}
-use Rattle.refusal.specs.declared.Refusal.the-variants.{Field, Room, Length, End, Checksum, Contents, Dropped, Setting, TooLong, Form, Lost, State}
+use Rattle.refusal.specs.declared.Refusal.the-variants.{Field, Room, Length, End, Checksum, Contents, Dropped, Setting, TooLong, Form, Lost, NoPort, State}
 
 -- the refusal with this number and value; 16 for a number that is none
 abbrev refusalBy : ℕ → ℕ → Refusal
@@ -22,7 +22,8 @@ refusalBy n v =
     (cond (eqb n 8) (Setting v)
     (cond (eqb n 9) TooLong
     (cond (eqb n 10) Form
-    (cond (eqb n 11) Lost State))))))))))
+    (cond (eqb n 11) Lost
+    (cond (eqb n 12) NoPort State)))))))))))
 
 back : (x : Refusal) → refusalBy (numberOf x) (valueOf x) ≡ x
 back (Field i) = refl
@@ -36,6 +37,7 @@ back (Setting i) = refl
 back TooLong = refl
 back Form = refl
 back Lost = refl
+back NoPort = refl
 back State = refl
 
 not-zero : (x : Refusal) → numberOf x ≡ 0 → ⊥
@@ -50,6 +52,7 @@ not-zero (Setting i) e = absurd (omega arith)
 not-zero TooLong e = absurd (omega arith)
 not-zero Form e = absurd (omega arith)
 not-zero Lost e = absurd (omega arith)
+not-zero NoPort e = absurd (omega arith)
 not-zero State e = absurd (omega arith)
 
 pub numbers : Numbers

@@ -1,7 +1,7 @@
--- Document 01's table of refusal numbers, with 9, 10 and 11, which requests [1], [3] and [6] give.
+-- Document 01's table of refusal numbers, with 9 to 12, which requests [1], [3], [6] and [8] give.
 use Prim.Native.Nat.{ℕ}
 use Rattle.refusal.specs.declared.Refusal.{Refusal}
-use Rattle.refusal.specs.declared.Refusal.the-variants.{Field, Room, Length, End, Checksum, Contents, Dropped, Setting, TooLong, Form, Lost, State}
+use Rattle.refusal.specs.declared.Refusal.the-variants.{Field, Room, Length, End, Checksum, Contents, Dropped, Setting, TooLong, Form, Lost, NoPort, State}
 
 -- the column 'No.'
 abbrev pub numberOf : Refusal → ℕ
@@ -16,6 +16,7 @@ numberOf (Setting i) = 8
 numberOf TooLong = 9
 numberOf Form = 10
 numberOf Lost = 11
+numberOf NoPort = 12
 numberOf State = 16
 
 -- the column 'Also returned'
@@ -31,4 +32,5 @@ valueOf (Setting i) = i
 valueOf TooLong = 0
 valueOf Form = 0
 valueOf Lost = 0
+valueOf NoPort = 0
 valueOf State = 0

@@ -24,6 +24,8 @@ pub enum Refusal {
     Form,
     // 11: thousandths that an old line cannot hold.
     Lost,
+    // 12: no such port.
+    NoPort,
     // 16: a handed-in state, collector, cutter, run or follower that is not one of ours.
     State,
 }
@@ -50,6 +52,7 @@ pub fn number_of(r: Refusal) -> u32
         Refusal::TooLong => 9,
         Refusal::Form => 10,
         Refusal::Lost => 11,
+        Refusal::NoPort => 12,
         Refusal::State => 16,
     }
 }
@@ -70,6 +73,7 @@ pub fn value_of(r: Refusal) -> usize
         Refusal::TooLong => 0,
         Refusal::Form => 0,
         Refusal::Lost => 0,
+        Refusal::NoPort => 0,
         Refusal::State => 0,
     }
 }

@@ -1,12 +1,15 @@
 // The replay: standard input is a capture, a line an event, and it prints what the lens did with each.
 //
+//   replay [ports] [LETTER]
+//
 //   R hh    a byte is received
 //   S n     n slots, 1..999: the bytes sent in hex, -- for an idle slot
 //   M ..    a new measurement: fields 1 to 11, the unit letter, the temperature
 //
-// An event that is refused prints `refused` and its number; a line of other form prints `refused 10` and ends the
-// run, as slot 100,000 does. Last come `slots` and the number run. The lens is the bench lens; an argument gives
-// another start-up letter than I.
+// With `ports` a port number and a space may stand before an event: 0 is the camera contacts, 1 the external connector,
+// and a line without it is port 0's. An event that is refused prints `refused` and its number; a line of other form
+// prints `refused 10` and ends the run, as slot 100,000 does. Last come `slots` and the number run, on both ports. The
+// lens is the bench lens, on both ports; LETTER is another start-up letter than I.
 use follow::Follower;
 use frame::Wrote;
 use libc::STDERR_FILENO;
@@ -34,6 +37,13 @@ struct Desk {
 struct Step {
     desk: Desk,
     used: usize,
+}
+
+// What the arguments ask for, and whether that was all of them.
+struct Asked {
+    ports: bool,
+    letter: u8,
+    understood: bool,
 }
 
 // Writes what is unwritten.
@@ -73,13 +83,13 @@ fn advance(desk: Desk, input: &[u8], out: &mut [u8]) -> Step
     let before = desk.follower;
     let followed = before.take(input, &mut out[at..]);
     let follower = followed.follower;
-    let run = follower.run;
+    let runs = follower.runs;
     let wrote = followed.wrote;
     Step {
         desk: Desk {
             follower,
             unwritten: at + printed(wrote),
-            open: !run.is_over(),
+            open: !runs.is_over(),
         },
         used: followed.used,
     }
@@ -147,20 +157,54 @@ fn end(follower: Follower) {
     let wrote = closed.wrote;
     write(&out, printed(wrote));
     let after = closed.follower;
-    let run = after.run;
-    let counted = run.count(&mut out);
+    let runs = after.runs;
+    let counted = runs.count(&mut out);
     write(&out, printed(counted));
 }
 
-// The start-up letter that the first argument gives.
-fn start_letter() -> u8 {
+// Whether a word is `ports`.
+fn is_ports(word: &[u8]) -> bool {
+    if word.len() != 5 {
+        return false;
+    }
+    let first = (word[0] == b'p') & (word[1] == b'o') & (word[2] == b'r');
+    first & (word[3] == b't') & (word[4] == b's')
+}
+
+// The start-up letter that the argument of this number gives, which is the last one.
+fn asked_by(ports: bool, at: usize) -> Asked
+    requires { ⌜ at ≤ 2 ⌝ }
+{
+    let mut word = io::buffer();
+    let n = os::arg(at, &mut word);
+    let count = os::arg_count();
+    Asked {
+        ports,
+        letter: bench_lens::letter_of(&word[..n]),
+        understood: count <= at + 1,
+    }
+}
+
+// [ports] [LETTER]
+fn all_asked() -> Asked {
     let mut word = io::buffer();
     let n = os::arg(1, &mut word);
-    bench_lens::letter_of(&word[..n])
+    if is_ports(&word[..n]) {
+        return asked_by(true, 2);
+    }
+    asked_by(false, 1)
 }
 
 fn main() {
-    let begun = Follower::start(start_letter());
+    let asked = all_asked();
+    if !asked.understood {
+        io::write_all(
+            STDERR_FILENO,
+            b"replay: takes the word ports, then a start-up letter, and no more: replay [ports] [LETTER]\n",
+        );
+        return;
+    }
+    let begun = Follower::start(asked.letter, asked.ports);
     let verdict = begun.verdict;
     if let Verdict::Refused(_) = verdict {
         io::write_all(

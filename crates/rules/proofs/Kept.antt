@@ -28,7 +28,7 @@ use Rattle.state.specs.declared.State.the-variants.{Ready, Running}
 use Rattle.state.specs.declared.Sending.the-variants as sending
 use Rattle.state.specs.State.{validSource}
 use Rattle.rules.specs.Does.{Outcome, withModes, filmNow, rateNext, rateMoved, unitWith, relettered, letterNow, isOn, continuous, replies, silent, runs, isN, wakes, readies, doesIn, does, countsIn, counts}
-use Rattle.rules.specs.Lens.{Given, measurement, measured, withGiven, Good, longestReply}
+use Rattle.rules.specs.Lens.{Turn, by-x, by-y, turnsTo, turned, Given, measurement, elsewhere, measured, withGiven, Good, longestReply}
 use Rattle.rules.proofs.Valid.{Valid, done-is, valid-told, valid-made, untouched-valid}
 use Rattle.rules.specs.Rows.{Others}
 use Rattle.rules.proofs.Rows.{untouched, rows}
@@ -159,6 +159,16 @@ measured-valid s m v =
     (record { settings = p .settings; measurement = done-is _ e; film = p .film; unit = p .unit; rate = p .rate; next-rate = p .next-rate })))
     (λ e. rw e v)
 
+turns-to-letter : (t : Turn) → letterOk (turnsTo t) ≡ true
+unfolding letterOk
+turns-to-letter by-x = refl
+turns-to-letter by-y = refl
+
+-- in the other direction too: a letter turned elsewhere makes no source valid or invalid
+pub turned-same : (t : Turn) (s : Source) → validSource (turned t s) ≡ validSource s
+unfolding validSource
+turned-same t s = rw (letter-same (turnsTo t) (s .settings) (turns-to-letter t))
+
 -- ---- continuous sending: off in ready
 
 -- no command of ready switches it
@@ -209,3 +219,4 @@ measured-good s m g =
 
 pub given-good : (s : Source) (x : Given) → Good s → Good (withGiven s x)
 given-good s (measurement m) g = measured-good s m g
+given-good s (elsewhere t) g = record { valid = turned-same t s ∙ g .valid; ready-off = g .ready-off }

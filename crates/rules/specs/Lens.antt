@@ -17,18 +17,33 @@ use Rattle.state.specs.declared.State.the-variants.{Ready}
 use Rattle.state.specs.declared.Sending.the-variants.{Off}
 use Rattle.state.specs.declared.Modes.{Modes}
 use Rattle.state.specs.State.{validSource}
-use Rattle.rules.specs.Does.{withModes, rateMoved, does, counts, continuous, recordMessage}
+use Rattle.rules.specs.Does.{withModes, rateMoved, letterNow, does, counts, continuous, recordMessage}
 
--- what is handed to the port between slots
+-- the commands that turn the start-up letter, B or b: X and Y
+pub data Turn : Type 0 where
+  by-x by-y : Turn
+
+-- what is handed to the port between slots: a new measurement; and the turn that the other connector of a box made
 pub data Given : Type 0 where
   measurement : Measurement → Given
+  elsewhere : Turn → Given
 
 -- a new measurement, where it is in range
 unfoldable pub measured : Source → Measurement → Source
 measured s m = cond (isDone (measurementVerdict m)) (record { settings = s .settings; measurement = m; modes = s .modes }) s
 
+-- the letter that B or b becomes, here and elsewhere
+abbrev pub turnsTo : Turn → ℕ
+turnsTo by-x = 66
+turnsTo by-y = 98
+
+-- X or Y elsewhere: the start-up letter, and nothing else
+abbrev pub turned : Turn → Source → Source
+turned t s = record { settings = letterNow (turnsTo t) (s .settings); measurement = s .measurement; modes = s .modes }
+
 abbrev pub withGiven : Source → Given → Source
 withGiven s (measurement m) = measured s m
+withGiven s (elsewhere t) = turned t s
 
 -- what a start sets: ready, all modes off, film 00, rate number 6, this unit
 abbrev pub startModes : ℕ → Modes

@@ -24,7 +24,7 @@ use Rattle.state.specs.declared.Sending.{Sending}
 use Rattle.state.specs.declared.Sending.the-variants as sending
 use Rattle.state.specs.declared.Source.{Source}
 use Rattle.rules.specs.Does.{runs, readies}
-use Rattle.rules.specs.Lens.{startModes, measurement, lens}
+use Rattle.rules.specs.Lens.{startModes, Turn, by-x, by-y, measurement, elsewhere, lens}
 
 -- what no switch touches
 pub record Untouched (s t : Source) : Type 0 where
@@ -88,6 +88,11 @@ module _ (s : Source) where
     -- a new measurement takes the old one's place, where it is in range, and nothing else changes
     pub measures : (m : Measurement) → measurementVerdict m ≡ Done →
         lens .update s (measurement m) ≡ record { settings = s .settings; measurement = m; modes = s .modes }
+    -- "X or Y on one port changes a B or b that the other's N shows, and nothing else there": the settings become what X or Y would make of them here
+    pub x-elsewhere : lens .update s (elsewhere by-x) .settings ≡ runs s X .source .settings
+    pub y-elsewhere : lens .update s (elsewhere by-y) .settings ≡ runs s Y .source .settings
+    pub elsewhere-keeps : (t : Turn) → others (lens .update s (elsewhere t)) ≡ others s
+    pub elsewhere-switches : (t : Turn) → switches (lens .update s (elsewhere t)) ≡ switches s
     -- ---- in ready
     -- N answers the fixed data and moves to running, and changes nothing else; everything else answers < and does nothing
     pub ready-n : readies s N .reply ≡ said (fixedForm .print (s .settings .fixed))

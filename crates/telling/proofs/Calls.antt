@@ -1,7 +1,7 @@
--- A call refuses with 16 a run that is none of ours, with 2 a text that is longer than the lent memory, and else prints: one law for `tell` and `count`.
+-- A call refuses with 16 a state that is none of ours, with 2 a text that is longer than the lent memory, and else prints: one law for `tell` and `count`.
 -- Assumes nothing.
 use Prim.Native.Nat.{ℕ, _≤_, _<_}
-use mathlib.Core.Bool.{true, false, cond}
+use mathlib.Core.Bool.{Bool, true, false, cond}
 use mathlib.Core.List.{List}
 use mathlib.Core.Logic.{_↔_, _⊎_, inl, inr}
 use mathlib.Core.Path.{_≡_, refl, sym, ap, _∙_}
@@ -50,35 +50,38 @@ not-both r o (inr (inr s)) = let h = o .slots in omega arith
 pub is-foreign : (r : Run) → Foreign r → validRun r ≡ false
 is-foreign r f = told (validRun r) (λ v. absurd (not-both r (ours r v) f)) (λ n. n)
 
--- ---- a text of a run
+-- ---- a text, of a state that is ours or not
 
-module _ (r : Run) (text out : List ℕ) where
+module _ (valid : Bool) (text out : List ℕ) where
   -- what the call answers, and what it leaves in the lent memory
   abbrev pub wroteIn : Wrote
-  wroteIn = cond (validRun r) (printedIn text out) (wrote.Refused State)
+  wroteIn = cond valid (printedIn text out) (wrote.Refused State)
 
   abbrev leftIn : List ℕ
-  leftIn = cond (validRun r) (over out 0 text) out
+  leftIn = cond valid (over out 0 text) out
+
+  pub call-done : valid ≡ true → length text ≤ length out → (wroteIn ≡ wrote.Count (length text)) × (leftIn ≡ over out 0 text)
+  call-done v h = (cond-yes _ _ v ∙ sym (prints-whole text out refl h refl .answers), cond-yes _ _ v)
 
   -- which of the three it is
-  by-call : {C : Type 0} → (validRun r ≡ false → wroteIn ≡ wrote.Refused State → C) →
-      (validRun r ≡ true → length out < length text → wroteIn ≡ wrote.Refused (Room (length text)) → C) →
-      (validRun r ≡ true → length text ≤ length out → wroteIn ≡ wrote.Count (length text) → C) → C
+  by-call : {C : Type 0} → (valid ≡ false → wroteIn ≡ wrote.Refused State → C) →
+      (valid ≡ true → length out < length text → wroteIn ≡ wrote.Refused (Room (length text)) → C) →
+      (valid ≡ true → length text ≤ length out → wroteIn ≡ wrote.Count (length text) → C) → C
   by-call f g h =
-      told (validRun r)
+      told valid
       (λ v.
       told (leb (length text) (length out))
-      (λ y. let k = leb-true _ _ y in h v k (cond-yes _ _ v ∙ sym (prints-whole text out refl k refl .answers)))
+      (λ y. let k = leb-true _ _ y in h v k (call-done v k .0))
       (λ n. let k = leb-false _ _ n in g v k (cond-yes _ _ v ∙ sym (prints-short text out refl k .answers))))
       (λ n. f n (cond-no _ _ n))
 
-  pub call-16 : (wroteIn ≡ wrote.Refused State) ↔ (validRun r ≡ false)
+  pub call-16 : (wroteIn ≡ wrote.Refused State) ↔ (valid ≡ false)
   call-16 = (
     λ e. by-call (λ n a. n) (λ v k a. never (cc)) (λ v k a. never (cc)),
     λ n. cond-no _ _ n,
   )
 
-  pub call-2 : (n : ℕ) → (wroteIn ≡ wrote.Refused (Room n)) ↔ ((validRun r ≡ true) × (length out < length text) × (n ≡ length text))
+  pub call-2 : (n : ℕ) → (wroteIn ≡ wrote.Refused (Room n)) ↔ ((valid ≡ true) × (length out < length text) × (n ≡ length text))
   call-2 n = (
     λ e. by-call (λ f a. never (cc)) (λ v k a. (v, k, cc)) (λ v k a. never (cc)),
     λ h. cond-yes _ _ (h .0) ∙ sym (prints-short text out (sym (h .2)) (omega (arith, h .1, h .2)) .answers),
@@ -99,7 +102,7 @@ handed-same (wrote.Count n) new old x e = never (cc)
 handed-same (wrote.Refused y) new old x e = refl
 
 module _ (r : Run) (e : Event) (out : List ℕ) where
-  pub told-wrote : toldOf r e out .wrote ≡ wroteIn r (tellOf r e .text) out
+  pub told-wrote : toldOf r e out .wrote ≡ wroteIn (validRun r) (tellOf r e .text) out
   unfolding toldOf
   told-wrote =
       told (validRun r)
@@ -112,3 +115,9 @@ module _ (r : Run) (e : Event) (out : List ℕ) where
       by (λ (t : Told). t .wrote ≡ wrote.Refused x → t .run ≡ r) (validRun r) _ _
       (λ v. handed-same (printedIn (tellOf r e .text) out) (tellOf r e .run) r x)
       (λ n h. refl)
+
+  -- 16 exactly for a run that is none of ours
+  pub told-16 : (toldOf r e out .wrote ≡ wrote.Refused State) ↔ (validRun r ≡ false)
+  told-16 =
+      let c = call-16 (validRun r) (tellOf r e .text) out in
+      (λ h. c .0 (sym told-wrote ∙ h), λ n. told-wrote ∙ c .1 n)

@@ -186,6 +186,17 @@ unfolding afterSlots
 after-valid zero p v = v
 after-valid (suc n) p v = after-valid n (slotOf p .port) (kept-valid .slot p v)
 
+tells-few : (r : Run) (e : Event) → r .slots ≤ 100000 → tells r e .run .slots ≤ 100000
+unfolding tells
+tells-few r (Received b) h = h
+tells-few r (Slots n) h = ⊎-elim (λ z. omega arith) (λ z. z) (slots-fit r n)
+tells-few r (Measured m) h = h
+tells-few r Other h = h
+
+-- no run has more slots than its last
+pub few : (r : Run) (e : Event) → r .slots ≤ 100000 → tellOf r e .run .slots ≤ 100000
+few r e h = by-end r e (λ (t : Telling). t .run .slots ≤ 100000) h (tells-few r e h)
+
 tells-ours : (r : Run) (e : Event) → Ours r → Ours (tells r e .run)
 unfolding tells
 tells-ours r (Received b) o = record {
@@ -196,7 +207,7 @@ tells-ours r (Received b) o = record {
 tells-ours r (Slots n) o = record {
   port = after-valid (slotsLeft r n) (r .port) (o .port);
   line = o .line;
-  slots = let h = o .slots in ⊎-elim (λ z. omega arith) (λ z. z) (slots-fit r n);
+  slots = tells-few r (Slots n) (o .slots);
 }
 tells-ours r (Measured m) o = record { port = kept-valid .measure (r .port) m (o .port); line = o .line; slots = o .slots }
 tells-ours r Other o = record { port = o .port; line = o .line; slots = o .slots }

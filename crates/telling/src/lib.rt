@@ -14,7 +14,7 @@ ghost use Rattle.telling.specs.Telling.{RunsSlots, slotsLeft, handed, te
 ghost use Rattle.telling.specs.Contracts.{RunStart, RunIsValid, RunIsOver, RunTell, RunCount};
 
 // A run stops after so many slots.
-const LAST_SLOT: u32 = 100000;
+pub const LAST_SLOT: u32 = 100000;
 
 // Where the run of a capture has come to.
 pub struct Run {

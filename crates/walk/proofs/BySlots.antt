@@ -5,9 +5,9 @@ use mathlib.Core.Path.{_≡_, refl, sym, ap, ap₂, _∙_}
 use lib.ListN.{replicate}
 use Rattle.machine.specs.Machine.{port, Event, Events, received, slot, given, slots}
 use Rattle.machine.proofs.Promise.{slots-append}
-use Rattle.rules.specs.Lens.{Given, measurement, lens}
+use Rattle.rules.specs.Lens.{Given, measurement, elsewhere, lens}
 use Rattle.walk.specs.Walk.{Sound}
-use Rattle.walk.specs.Calls.{Call, receive, slots-once, measure, fill, Held, after, bytes, ran, eventsOf, afterAll, bytesAll, eventsAll, FromStart}
+use Rattle.walk.specs.Calls.{Call, receive, slots-once, measure, fill, turn, Held, after, bytes, ran, eventsOf, afterAll, bytesAll, eventsAll, FromStart}
 use Rattle.walk.specs.InCalls.{slotsIn, slotsRun, singly, bySlots}
 use Rattle.walk.proofs.Calls.{fill-is, reached}
 
@@ -46,6 +46,7 @@ abbrev pub callOf : Event Given → Call
 callOf (received b) = receive b
 callOf slot = slots-once
 callOf (given (measurement m)) = measure m
+callOf (given (elsewhere t)) = turn t
 
 abbrev pub callsOf : Events lens → List Call
 callsOf [] = []
@@ -62,6 +63,7 @@ events-of h [] = refl
 events-of h (received b ∷ es) = ap (λ (x : Events lens). received b ∷ x) (events-of (after h (receive b)) es)
 events-of h (slot ∷ es) = ap (λ (x : Events lens). slot ∷ x) (events-of (after h slots-once) es)
 events-of h (given (measurement m) ∷ es) = ap (λ (x : Events lens). given (measurement m) ∷ x) (events-of (after h (measure m)) es)
+events-of h (given (elsewhere t) ∷ es) = ap (λ (x : Events lens). given (elsewhere t) ∷ x) (events-of (after h (turn t)) es)
 
 slots-replicate : (k : ℕ) → slots {X = Given} (replicate k slot) ≡ k
 slots-replicate zero = refl
@@ -72,6 +74,7 @@ call-slots h (receive b) = refl
 call-slots h slots-once = refl
 call-slots h (measure m) = refl
 call-slots h (fill n) = sym (slots-replicate (ran n (h .port)))
+call-slots h (turn t) = refl
 
 pub slots-are : (h : Held) (cs : List Call) → slotsRun h cs ≡ slots (eventsAll h cs)
 unfolding slotsRun eventsAll
@@ -90,6 +93,7 @@ singly-are h (receive b) = refl
 singly-are h slots-once = refl
 singly-are h (measure m) = refl
 singly-are h (fill n) = calls-replicate (ran n (h .port))
+singly-are h (turn t) = refl
 
 pub by-slots : (h : Held) (cs : List Call) → bySlots h cs ≡ callsOf (eventsAll h cs)
 unfolding bySlots eventsAll
@@ -102,6 +106,7 @@ unfolding afterAll bytesAll
 same-call h (receive b) s = (refl, refl)
 same-call h slots-once s = (refl, append-nil _)
 same-call h (measure m) s = (refl, refl)
+same-call h (turn t) s = (refl, refl)
 same-call h (fill n) s =
     let r = fill-is h n (s .valid) in
     (r .state, r .sends)

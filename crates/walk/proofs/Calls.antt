@@ -1,6 +1,6 @@
 -- Every sequence of calls is a run of the machine: call by call, a fill by its slots. Assumes nothing.
 use Prim.Native.Nat.{ℕ, zero, suc}
-use mathlib.Core.Bool.{true, _&&_}
+use mathlib.Core.Bool.{Bool, true, _&&_}
 use mathlib.Core.List.{List, [], _∷_, _++_, append-nil}
 use mathlib.Core.Option.{none, some}
 use mathlib.Core.Path.{_≡_, refl, sym, ap, ap₂, subst, _∙_}
@@ -18,12 +18,13 @@ use Rattle.line.specs.declared.Line.{Line}
 use Rattle.line.specs.Line.{ends, validLine}
 use Rattle.line.proofs.Laws.{blank-valid}
 use Rattle.state.specs.declared.Source.{Source}
-use Rattle.state.specs.State.{messageLength, zeros}
+use Rattle.state.specs.State.{messageLength, zeros, validMessage}
 use Rattle.state.proofs.Laws.{zeros-long}
 use Rattle.rules.specs.Does.{isOn}
-use Rattle.rules.specs.Lens.{measurement, lens, Good, greeting}
+use Rattle.rules.specs.Lens.{Turn, Given, measurement, elsewhere, lens, Good, greeting}
 use Rattle.rules.specs.Promise.{actBy, replyBy, recordBy}
 use Rattle.rules.proofs.Demand3.{demand3}
+use Rattle.rules.proofs.Kept.{turned-same}
 use Rattle.port.specs.declared.Port.{Port}
 use Rattle.port.specs.declared.Handed.{Handed}
 use Rattle.port.specs.declared.Received.{Received}
@@ -35,8 +36,8 @@ use Rattle.port.proofs.Promises.{by-handed, leaves-new, kept-valid}
 use Rattle.fill.specs.Fill.{SlotRun, thenRun, runOf, fillOf}
 use Rattle.fill.specs.declared.Filled.{Filled}
 use Rattle.walk.specs.View.{bytesOf}
-use Rattle.walk.specs.Walk.{Sound}
-use Rattle.walk.specs.Calls.{Call, receive, slots-once, measure, fill, Held, viewOf, after, bytes, ranBy, ran, eventsOf, afterAll, bytesAll, eventsAll, begun, FromStart, OfThePort}
+use Rattle.walk.specs.Walk.{Sound, turnedPort}
+use Rattle.walk.specs.Calls.{Call, receive, slots-once, measure, fill, turn, Held, viewOf, after, bytes, ranBy, ran, eventsOf, afterAll, bytesAll, eventsAll, begun, FromStart, OfThePort}
 use Rattle.walk.proofs.Walk.{walks}
 
 -- what some calls and the machine's events for them come to
@@ -103,9 +104,9 @@ unfolding onByte onReturn onOther
 quiet-byte (port m none u k l) b = by (λ (y : State lens × Out lens). sentIn (y .1) ≡ []) (ends l b) _ _ (λ y. refl) (λ n. refl)
 quiet-byte (port m (some c) u k l) b = by (λ (y : State lens × Out lens). sentIn (y .1) ≡ []) (ends l b) _ _ (λ y. refl) (λ n. refl)
 
-quiet-measure : (x : State lens) (m : Measurement) → sentIn (shows x (given (measurement m))) ≡ []
+quiet-given : (x : State lens) (g : Given) → sentIn (shows x (given g)) ≡ []
 unfolding onGiven
-quiet-measure (port s w u k l) m = refl
+quiet-given (port s w u k l) g = refl
 
 -- a received byte and a measurement leave the buffer alone
 received-long : (p : Port) (l : Line) (b : ℕ) → length (p .message .bytes) ≡ messageLength → length (receiveOf p l b .port .message .bytes) ≡ messageLength
@@ -122,6 +123,11 @@ measured-long p m h =
     let P : Handed → Type 0 = λ x. length (x .port .message .bytes) ≡ messageLength in
     by P (validPort p) _ _ (λ v. by-handed P (measurementVerdict m) (measuredPort p m) p (λ d. h) (λ r. h)) (λ n. h)
 
+-- a turn elsewhere keeps a valid port valid
+pub turned-valid : (p : Port) (t : Turn) → validPort p ≡ true → validPort (turnedPort t p) ≡ true
+unfolding validPort
+turned-valid p t v = ap (λ (x : Bool). x && (validMessage (p .message) && validLine (p .waiting .line))) (turned-same t (p .source)) ∙ v
+
 pub follows : (h : Held) (c : Call) → Sound (h .port) → validLine (h .line) ≡ true → Follows h (after h c) (bytes h c) (eventsOf h c)
 follows h (receive b) s l = record {
   state = walks .receive-walks (h .port) (h .line) b s l;
@@ -132,7 +138,7 @@ follows h (receive b) s l = record {
 follows h slots-once s l = slot-follows h s l
 follows h (measure m) s l = record {
   state = walks .measure-walks (h .port) (h .line) m s;
-  sends = sym (ap (λ (x : List ℕ). x ++ []) (quiet-measure (viewOf h) m));
+  sends = sym (ap (λ (x : List ℕ). x ++ []) (quiet-given (viewOf h) (measurement m)));
   sound = record { valid = kept-valid .measure (h .port) m (s .valid); long = measured-long (h .port) m (s .long) };
   line = l;
 }
@@ -140,6 +146,12 @@ follows h (fill n) s l =
     let r = fill-is h n (s .valid) in
     let F : Held → List ℕ → Type 0 = λ x bs. Follows h x bs (eventsOf h (fill n)) in
     subst (λ x. F x (bytes h (fill n))) (r .state) (subst (F _) (r .sends) (slots-follow (ran n (h .port)) h s l))
+follows h (turn t) s l = record {
+  state = walks .turn-walks (h .port) (h .line) t;
+  sends = sym (ap (λ (x : List ℕ). x ++ []) (quiet-given (viewOf h) (elsewhere t)));
+  sound = record { valid = turned-valid (h .port) t (s .valid); long = s .long };
+  line = l;
+}
 
 -- ---- all calls
 

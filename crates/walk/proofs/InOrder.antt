@@ -10,13 +10,12 @@ use Rattle.refusal.specs.Answer.{isDone}
 use Rattle.machine.specs.Machine.{Kind, Choice, choice, State, port, waiting, line, listed, rules, begin, onByte, onReturn, onOther, onSlot, onGiven, received, slot, given, Out, next, shows, seen, takenIn, taken, actedIn, acted}
 use Rattle.machine.proofs.Use.{seen-append}
 use Rattle.refusal.specs.declared.Verdict.{Verdict}
-use Rattle.units.specs.declared.Measurement.{Measurement}
 use Rattle.line.specs.declared.Line.{Line}
 use Rattle.line.specs.Line.{ends}
 use Rattle.state.specs.declared.Waiting.{Waiting}
-use Rattle.rules.specs.Lens.{measurement, lens}
+use Rattle.rules.specs.Lens.{Given, measurement, elsewhere, lens}
 use Rattle.walk.specs.View.{waitsOf, view}
-use Rattle.walk.specs.Calls.{Call, receive, slots-once, measure, fill, Held, viewOf, after, ran, eventsOf, afterAll, eventsAll, FromStart}
+use Rattle.walk.specs.Calls.{Call, receive, slots-once, measure, fill, turn, Held, viewOf, after, ran, eventsOf, afterAll, eventsAll, FromStart}
 use Rattle.walk.specs.Answers.{verdictOf}
 use Rattle.walk.specs.InCalls.{takenBy, takenAll, waitsIn, actedBy, actedAll}
 use Rattle.walk.proofs.Calls.{follows, all-follow, reached}
@@ -41,9 +40,9 @@ slots-take : (k : ℕ) (x : State lens) → taken x (replicate k slot) ≡ []
 slots-take zero x = refl
 slots-take (suc k) x = ap₂ (λ (a b : List Line). a ++ b) (slot-takes x) (slots-take k (next x slot))
 
-given-takes : (x : State lens) (m : Measurement) → takenIn (shows x (given (measurement m))) ≡ []
+given-takes : (x : State lens) (g : Given) → takenIn (shows x (given g)) ≡ []
 unfolding onGiven
-given-takes (port s w u k l) m = refl
+given-takes (port s w u k l) g = refl
 
 -- a received byte takes the line that it ends, where the answer is done
 return-takes : (x : State lens) → takenIn (onReturn x .1) ≡ cond (isDone (verdictOf (onReturn x .1))) (line x ∷ []) []
@@ -68,8 +67,9 @@ unfolding view
 call-takes h (receive b) f =
     ap (λ (v : Verdict). cond (ends (h .line) b && isDone v) (h .line ∷ []) []) (byte-shows (h .port) (h .line) b (reached f .sound) (reached f .line)) ∙ sym (byte-takes (viewOf h) b) ∙ sym (append-nil _)
 call-takes h slots-once f = sym (append-nil _ ∙ slot-takes (viewOf h))
-call-takes h (measure m) f = sym (append-nil _ ∙ given-takes (viewOf h) m)
+call-takes h (measure m) f = sym (append-nil _ ∙ given-takes (viewOf h) (measurement m))
 call-takes h (fill n) f = sym (slots-take (ran n (h .port)) (viewOf h))
+call-takes h (turn t) f = sym (append-nil _ ∙ given-takes (viewOf h) (elsewhere t))
 
 -- ---- what is acted on
 
@@ -118,6 +118,7 @@ call-acts h c f = by-call c
     by-call slots-once = none-taken slots-once (sym (call-takes h slots-once f))
     by-call (measure m) = none-taken (measure m) (sym (call-takes h (measure m) f))
     by-call (fill n) = none-taken (fill n) (sym (call-takes h (fill n) f))
+    by-call (turn t) = none-taken (turn t) (sym (call-takes h (turn t) f))
 
 -- what each call shows is what the machine shows, so all do
 pub end-to-end : {A : Type 0} (g : Out lens → List A) (h : Held) (c : Call) (cs : List Call) → FromStart h → (xs ys : List A) →

@@ -17,8 +17,9 @@ use Rattle.port.specs.declared.Received.{Received}
 use Rattle.port.specs.Port.{validPort, takenOf, receiveOf}
 use Rattle.port.proofs.Promises.{kept-valid}
 use Rattle.fill.proofs.Promises.{promised}
-use Rattle.walk.specs.Calls.{Call, receive, slots-once, measure, fill, Held, after, bytes, afterAll, bytesAll}
+use Rattle.walk.specs.Calls.{Call, receive, slots-once, measure, fill, turn, Held, after, bytes, afterAll, bytesAll}
 use Rattle.walk.specs.InPlace.{portInPlace, inPlace, allInPlace, bytesInPlace, InPlace}
+use Rattle.walk.proofs.Calls.{turned-valid}
 
 -- an answer that says that no line ended does not say that one did
 no-end : {A : Type 0} {c c′ : Collected} → c ≡ c′ → c′ .ended ≡ false → c .ended ≡ true → A
@@ -105,12 +106,14 @@ same h (receive b) v = ap₂ (λ p l. record { port = p; line = l }) (port (h .p
 same h slots-once v = refl
 same h (measure m) v = refl
 same h (fill n) v = refl
+same h (turn t) v = refl
 
 stays-valid : (h : Held) (c : Call) → validPort (h .port) ≡ true → validPort (after h c .port) ≡ true
 stays-valid h (receive b) v = kept-valid .receive (h .port) (h .line) b v
 stays-valid h slots-once v = kept-valid .slot (h .port) v
 stays-valid h (measure m) v = kept-valid .measure (h .port) m v
 stays-valid h (fill n) v = promised .kept-valid (h .port) n v
+stays-valid h (turn t) v = turned-valid (h .port) t v
 
 states : (h : Held) (cs : List Call) → validPort (h .port) ≡ true → allInPlace h cs ≡ afterAll h cs
 unfolding allInPlace afterAll

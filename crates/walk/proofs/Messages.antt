@@ -17,13 +17,13 @@ use Rattle.units.specs.declared.Measurement.{Measurement}
 use Rattle.line.specs.declared.Line.{Line}
 use Rattle.state.specs.declared.Source.{Source}
 use Rattle.rules.specs.Does.{does, continuous}
-use Rattle.rules.specs.Lens.{measurement, lens, greeting}
+use Rattle.rules.specs.Lens.{Given, measurement, elsewhere, lens, greeting}
 use Rattle.port.specs.declared.Port.{Port}
 use Rattle.port.specs.Port.{isReply, chooseOf, slotOf, startOf}
 use Rattle.port.proofs.Valid.{message-valid}
 use Rattle.walk.specs.View.{kindOf, waitsOf, view}
 use Rattle.walk.specs.Walk.{Sound}
-use Rattle.walk.specs.Calls.{Call, receive, slots-once, measure, fill, Held, viewOf, after, ran, eventsOf, afterAll, eventsAll, begun, FromStart}
+use Rattle.walk.specs.Calls.{Call, receive, slots-once, measure, fill, turn, Held, viewOf, after, ran, eventsOf, afterAll, eventsAll, begun, FromStart}
 use Rattle.walk.specs.InCalls.{slotsIn, elseRecord, givenAt, ifAny, startedAt, startedOver, startedAll, WholeMessages}
 use Rattle.walk.proofs.Slot.{none-left, all-sent, owed-is}
 use Rattle.walk.proofs.Walk.{walks}
@@ -98,16 +98,17 @@ slots-start (suc k) p l s =
 
 -- ---- those that the calls start
 
-given-starts : (x : State lens) (m : Measurement) → startedIn (shows x (given (measurement m))) ≡ []
+given-starts : (x : State lens) (g : Given) → startedIn (shows x (given g)) ≡ []
 unfolding onGiven
-given-starts (port s w u k l) m = refl
+given-starts (port s w u k l) g = refl
 
 call-starts : (h : Held) (c : Call) → FromStart h → startedOver (slotsIn h c) (h .port) ≡ started (viewOf h) (eventsOf h c)
 unfolding startedOver
 call-starts h (receive b) f = sym (append-nil _ ∙ by-byte (λ o. startedIn o ≡ []) (viewOf h) b refl (λ c. refl) refl)
 call-starts h slots-once f = slots-start 1 (h .port) (h .line) (reached f .sound)
-call-starts h (measure m) f = sym (append-nil _ ∙ given-starts (viewOf h) m)
+call-starts h (measure m) f = sym (append-nil _ ∙ given-starts (viewOf h) (measurement m))
 call-starts h (fill n) f = slots-start (ran n (h .port)) (h .port) (h .line) (reached f .sound)
+call-starts h (turn t) f = sym (append-nil _ ∙ given-starts (viewOf h) (elsewhere t))
 
 pub all-start : (h : Held) (cs : List Call) → FromStart h → startedAll h cs ≡ started (viewOf h) (eventsAll h cs)
 unfolding afterAll eventsAll startedAll

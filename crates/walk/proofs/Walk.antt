@@ -20,14 +20,14 @@ use Rattle.line.specs.declared.Line.{Line}
 use Rattle.line.specs.Line.{blank, ends, joined, validLine}
 use Rattle.state.specs.State.{zeros}
 use Rattle.state.proofs.Laws.{zeros-long}
-use Rattle.rules.specs.Lens.{measurement, measured, lens, greeting}
+use Rattle.rules.specs.Lens.{Turn, measurement, elsewhere, measured, lens, greeting}
 use Rattle.port.specs.declared.Port.{Port}
 use Rattle.port.specs.declared.Received.{Received}
 use Rattle.port.specs.Port.{takenPort, takenOf, receiveOf, handed, measuredPort, measureOf, startedPort, startOf}
 use Rattle.port.proofs.Valid.{slot-fine}
 use Rattle.port.proofs.Promises.{leaves-new}
 use Rattle.walk.specs.View.{kindOf, waitsOf, leftOf, view}
-use Rattle.walk.specs.Walk.{Sound, Walks}
+use Rattle.walk.specs.Walk.{Sound, turnedPort, Walks}
 use Rattle.walk.proofs.Slot.{slot-alike}
 
 -- ---- a start
@@ -83,6 +83,12 @@ measure-walks : (p : Port) (l : Line) (m : Measurement) → Sound p → view (me
 unfolding measureOf view onGiven measured
 measure-walks p l m s = rw (s .valid) (measure-by (measurementVerdict m) p l m)
 
+-- ---- X or Y elsewhere
+
+turn-walks : (p : Port) (l : Line) (t : Turn) → view (turnedPort t p) l ≡ next (view p l) (given (elsewhere t))
+unfolding view onGiven
+turn-walks p l t = refl
+
 -- ---- all
 
 pub walks : Walks
@@ -92,5 +98,6 @@ walks = record {
   slot-sends = λ p l s. slot-alike p l s .bytes;
   receive-walks = receive-walks;
   measure-walks = measure-walks;
+  turn-walks = turn-walks;
   slot-sound = λ p s. record { valid = slot-fine p (s .valid) .valid; long = slot-alike p blank s .long };
 }

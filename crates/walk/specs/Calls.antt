@@ -1,5 +1,5 @@
--- Demand 3 for the port itself: every sequence of calls of receive, slot, measure and fill is a run of the machine, from the state that a start
--- leaves; a fill counts as the slots it runs. Statements only.
+-- Demand 3 for the port itself: every sequence of calls of receive, slot, measure and fill, and of turns of the start-up letter at another connector, is
+-- a run of the machine, from the state that a start leaves; a fill counts as the slots it runs. Statements only.
 use Prim.Native.Nat.{ℕ, zero, suc}
 use mathlib.Core.List.{List, [], _∷_, _++_}
 use mathlib.Core.Path.{_≡_}
@@ -10,7 +10,7 @@ use Rattle.refusal.specs.declared.Verdict.the-variants.{Done}
 use Rattle.fixed.specs.declared.Settings.{Settings}
 use Rattle.units.specs.declared.Measurement.{Measurement}
 use Rattle.line.specs.declared.Line.{Line}
-use Rattle.rules.specs.Lens.{measurement, lens}
+use Rattle.rules.specs.Lens.{Turn, measurement, elsewhere, lens}
 use Rattle.rules.specs.Promise.{actBy, replyBy, recordBy}
 use Rattle.port.specs.declared.Port.{Port}
 use Rattle.port.specs.declared.Sent.{Sent}
@@ -18,13 +18,15 @@ use Rattle.port.specs.declared.Sent.the-variants as sent
 use Rattle.port.specs.Port.{slotOf, receiveOf, measureOf, startedPort, startOf}
 use Rattle.fill.specs.Fill.{runOf, fillOf}
 use Rattle.walk.specs.View.{view, bytesOf}
+use Rattle.walk.specs.Walk.{turnedPort}
 
--- a call of the driver's
+-- a call of the driver's; a turn is no call of this port's: the other connector of the box has acted on X or Y
 pub data Call : Type 0 where
   receive : ℕ → Call
   slots-once : Call
   measure : Measurement → Call
   fill : ℕ → Call
+  turn : Turn → Call
 
 -- what the driver keeps: the port and the line
 pub record Held : Type 0 where
@@ -40,6 +42,7 @@ after h (receive b) = record { port = receiveOf (h .port) (h .line) b .port; lin
 after h slots-once = record { port = slotOf (h .port) .port; line = h .line }
 after h (measure m) = record { port = measureOf (h .port) m .port; line = h .line }
 after h (fill n) = record { port = fillOf (h .port) n .port; line = h .line }
+after h (turn t) = record { port = turnedPort t (h .port); line = h .line }
 
 -- the bytes that a call hands to the line
 abbrev pub bytes : Held → Call → List ℕ
@@ -47,6 +50,7 @@ bytes h (receive b) = []
 bytes h slots-once = bytesOf (slotOf (h .port) .sent)
 bytes h (measure m) = []
 bytes h (fill n) = runOf n (h .port) .bytes
+bytes h (turn t) = []
 
 -- how many slots a fill runs: one for each byte, and the idle one, if it ended so (no slot of a port from a start is refused: `slot-16` in Answers)
 abbrev pub ranBy : Sent → ℕ → ℕ
@@ -64,6 +68,7 @@ eventsOf h (receive b) = received b ∷ []
 eventsOf h slots-once = slot ∷ []
 eventsOf h (measure m) = given (measurement m) ∷ []
 eventsOf h (fill n) = replicate (ran n (h .port)) slot
+eventsOf h (turn t) = given (elsewhere t) ∷ []
 
 -- and of a list of calls: the state after them, their bytes, their events, end to end
 unfoldable pub afterAll : Held → List Call → Held

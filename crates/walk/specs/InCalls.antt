@@ -23,7 +23,7 @@ use Rattle.port.specs.declared.Port.{Port}
 use Rattle.port.specs.declared.Sent.the-variants as sent
 use Rattle.port.specs.Port.{isReply, actOf, chooseOf, slotOf, receiveOf, startOf}
 use Rattle.walk.specs.View.{waitsOf, holding, leftOf}
-use Rattle.walk.specs.Calls.{Call, receive, slots-once, measure, fill, Held, after, ran, afterAll, bytesAll, begun, FromStart}
+use Rattle.walk.specs.Calls.{Call, receive, slots-once, measure, fill, turn, Held, after, ran, afterAll, bytesAll, begun, FromStart}
 
 -- the slots that a call runs, and those of a list of calls
 abbrev pub slotsIn : Held → Call → ℕ
@@ -31,6 +31,7 @@ slotsIn h (receive b) = 0
 slotsIn h slots-once = 1
 slotsIn h (measure m) = 0
 slotsIn h (fill n) = ran n (h .port)
+slotsIn h (turn t) = 0
 
 unfoldable pub slotsRun : Held → List Call → ℕ
 slotsRun h [] = 0
@@ -42,6 +43,7 @@ singly h (receive b) = receive b ∷ []
 singly h slots-once = slots-once ∷ []
 singly h (measure m) = measure m ∷ []
 singly h (fill n) = replicate (ran n (h .port)) slots-once
+singly h (turn t) = turn t ∷ []
 
 unfoldable pub bySlots : Held → List Call → List Call
 bySlots h [] = []
@@ -53,6 +55,7 @@ takenBy h (receive b) = cond (ends (h .line) b && isDone (receiveOf (h .port) (h
 takenBy h slots-once = []
 takenBy h (measure m) = []
 takenBy h (fill n) = []
+takenBy h (turn t) = []
 
 unfoldable pub takenAll : Held → List Call → List Line
 takenAll h [] = []

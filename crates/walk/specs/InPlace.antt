@@ -12,7 +12,7 @@ use Rattle.line.specs.declared.Line.{Line}
 use Rattle.collector.specs.Collect.{lineAfter, collected}
 use Rattle.port.specs.declared.Port.{Port}
 use Rattle.port.specs.Port.{validPort, receiveOf, startOf}
-use Rattle.walk.specs.Calls.{Call, receive, slots-once, measure, fill, Held, after, bytes, afterAll, bytesAll, begun}
+use Rattle.walk.specs.Calls.{Call, receive, slots-once, measure, fill, turn, Held, after, bytes, afterAll, bytesAll, begun}
 
 -- the port is called only where a line ended
 abbrev pub portInPlace : Port → Line → ℕ → Port
@@ -24,6 +24,7 @@ inPlace h (receive b) = record { port = portInPlace (h .port) (h .line) b; line 
 inPlace h slots-once = after h slots-once
 inPlace h (measure m) = after h (measure m)
 inPlace h (fill n) = after h (fill n)
+inPlace h (turn t) = after h (turn t)
 
 -- and a list of them: the state after them, and their bytes, end to end
 unfoldable pub allInPlace : Held → List Call → Held

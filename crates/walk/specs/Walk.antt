@@ -10,7 +10,7 @@ use Rattle.units.specs.declared.Measurement.{Measurement}
 use Rattle.line.specs.declared.Line.{Line}
 use Rattle.line.specs.Line.{validLine}
 use Rattle.state.specs.State.{messageLength}
-use Rattle.rules.specs.Lens.{measurement, lens}
+use Rattle.rules.specs.Lens.{Turn, turned, measurement, elsewhere, lens}
 use Rattle.port.specs.declared.Port.{Port}
 use Rattle.port.specs.Port.{validPort, slotOf, receiveOf, measureOf, startedPort, startOf}
 use Rattle.walk.specs.View.{view, bytesOf}
@@ -19,6 +19,10 @@ use Rattle.walk.specs.View.{view, bytesOf}
 pub record Sound (p : Port) : Type 0 where
   pub valid : validPort p ≡ true
   pub long : length (p .message .bytes) ≡ messageLength
+
+-- the other connector of the box has acted on X or Y
+abbrev pub turnedPort : Turn → Port → Port
+turnedPort t p = record { source = turned t (p .source); message = p .message; last = p .last; waiting = p .waiting }
 
 pub record Walks : Type 0 where
   -- an accepted start is the machine's start
@@ -31,5 +35,7 @@ pub record Walks : Type 0 where
   pub receive-walks : (p : Port) (l : Line) (b : ℕ) → Sound p → validLine l ≡ true → view (receiveOf p l b .port) (receiveOf p l b .line) ≡ next (view p l) (received b)
   -- and a new measurement, which changes nothing where it is refused
   pub measure-walks : (p : Port) (l : Line) (m : Measurement) → Sound p → view (measureOf p m .port) l ≡ next (view p l) (given (measurement m))
+  -- and an X or Y acted on at the other connector
+  pub turn-walks : (p : Port) (l : Line) (t : Turn) → view (turnedPort t p) l ≡ next (view p l) (given (elsewhere t))
   -- and a sound port stays sound
   pub slot-sound : (p : Port) → Sound p → Sound (slotOf p .port)

@@ -1,8 +1,9 @@
 //! The port in plain Rust, written from document 01 and the requests alone: start, receive, slot, fill and measure.
 //!
 //! The records and the fixed data are written by the module `forms` of the program that takes this file in: lens.rs in the
-//! tests, the benchmark's own writers in bench/. The state is private and each change keeps it in range, so that refusal 16
-//! cannot occur.
+//! tests, the benchmark's own writers in bench/. The settings are the lens's, which its ports share (request [8]), and are lent
+//! to a port where it starts and in its slots. The rest of its state is private and each change keeps it in range, so that
+//! refusal 16 cannot occur.
 
 use crate::forms;
 
@@ -254,7 +255,6 @@ pub enum Sent {
 
 #[derive(Debug, Clone)]
 pub struct Port {
-    settings: Settings,
     measurement: Measurement,
     running: bool,
     continuous: Option<Form>,
@@ -271,7 +271,7 @@ pub struct Port {
 }
 
 impl Port {
-    pub fn start(settings: Settings, measurement: Measurement) -> Result<Port, Refusal> {
+    pub fn start(settings: &Settings, measurement: Measurement) -> Result<Port, Refusal> {
         if let Some(item) = settings.wrong_item() {
             return Err(Refusal::Setting(item));
         }
@@ -280,7 +280,6 @@ impl Port {
         }
         let unit = if matches!(settings.letter, b'I' | b'B') { b'I' } else { b'M' };
         Ok(Port {
-            settings,
             measurement,
             running: false,
             continuous: None,
@@ -312,9 +311,9 @@ impl Port {
     }
 
     /// The byte sent in this slot; none if the slot is idle.
-    pub fn slot(&mut self) -> Option<u8> {
+    pub fn slot(&mut self, settings: &mut Settings) -> Option<u8> {
         if !self.under_way() {
-            self.begin();
+            self.begin(settings);
         }
         if !self.under_way() {
             return None;
@@ -328,9 +327,9 @@ impl Port {
     }
 
     /// Runs slots until the buffer is full or one is idle; the number of bytes sent.
-    pub fn fill(&mut self, out: &mut [u8]) -> usize {
+    pub fn fill(&mut self, settings: &mut Settings, out: &mut [u8]) -> usize {
         for (count, place) in out.iter_mut().enumerate() {
-            match self.slot() {
+            match self.slot(settings) {
                 Some(byte) => *place = byte,
                 None => return count,
             }
@@ -375,40 +374,40 @@ impl Port {
 
     // ---- a slot in which no message is under way
 
-    fn begin(&mut self) {
-        if self.sent_last == Sent::Reply && self.continue_sending() {
+    fn begin(&mut self, settings: &mut Settings) {
+        if self.sent_last == Sent::Reply && self.continue_sending(settings) {
             return;
         }
         let replied = match self.waiting.take() {
-            Some(command) if self.running => self.act(command),
-            Some(command) => self.act_in_ready(command),
+            Some(command) if self.running => self.act(settings, command),
+            Some(command) => self.act_in_ready(settings, command),
             None => false,
         };
         if !replied {
-            self.continue_sending();
+            self.continue_sending(settings);
         }
     }
 
     /// Starts a record if continuous sending is on; whether it is.
-    fn continue_sending(&mut self) -> bool {
+    fn continue_sending(&mut self, settings: &Settings) -> bool {
         if let Some(form) = self.continuous {
-            self.message = self.record(form);
+            self.message = self.record(settings, form);
             self.sent_last = Sent::Record;
         }
         self.continuous.is_some()
     }
 
-    fn record(&self, form: Form) -> Message {
+    fn record(&self, settings: &Settings, form: Form) -> Message {
         let fields = self.measurement.fields_in(self.unit);
         let writer = match form {
             Form::Text => forms::text,
             Form::Packed => forms::packed,
         };
-        Message::by(|bytes| writer(&fields, &self.settings.serial, self.checksum, bytes))
+        Message::by(|bytes| writer(&fields, &settings.serial, self.checksum, bytes))
     }
 
-    fn fixed_data(&self) -> Message {
-        Message::by(|bytes| forms::fixed(&self.settings, self.checksum, bytes))
+    fn fixed_data(&self, settings: &Settings) -> Message {
+        Message::by(|bytes| forms::fixed(settings, self.checksum, bytes))
     }
 
     fn reply(&mut self, message: Message) -> bool {
@@ -417,10 +416,10 @@ impl Port {
         true
     }
 
-    fn act_in_ready(&mut self, command: Command) -> bool {
+    fn act_in_ready(&mut self, settings: &Settings, command: Command) -> bool {
         if command == Command::Fixed {
             self.running = true;
-            return self.reply(self.fixed_data());
+            return self.reply(self.fixed_data(settings));
         }
         self.message = Message::of(&[b"<"], self.checksum);
         self.sent_last = Sent::Neither;
@@ -428,7 +427,7 @@ impl Port {
     }
 
     /// Acts on a command in running; whether it has a reply.
-    fn act(&mut self, command: Command) -> bool {
+    fn act(&mut self, settings: &mut Settings, command: Command) -> bool {
         match command {
             Command::Continuous(form) => self.continuous = Some(form),
             Command::Checksum => self.checksum = true,
@@ -438,8 +437,8 @@ impl Port {
             Command::Film(_, film) => self.film = film,
             Command::Unit(_, unit, letter) => {
                 self.unit = unit;
-                if matches!(self.settings.letter, b'B' | b'b') {
-                    self.settings.letter = letter;
+                if matches!(settings.letter, b'B' | b'b') {
+                    settings.letter = letter;
                 }
             }
             Command::Unknown if self.inhibit => return false,
@@ -448,15 +447,15 @@ impl Port {
         // The reply is written under the modes after the command.
         let plain = |parts: &[&[u8]]| Message::of(parts, self.checksum);
         let message = match command {
-            Command::Version => plain(&[b"B ", &self.settings.version]),
+            Command::Version => plain(&[b"B ", &settings.version]),
             Command::Continuous(_) | Command::Checksum | Command::Inhibit | Command::Halt => plain(&[b"!"]),
-            Command::Record(form) => self.record(form),
+            Command::Record(form) => self.record(settings, form),
             Command::Rate(n) => plain(&[b"Kb", &[b'0' + n, b'!']]),
-            Command::Maker => plain(&[b"K3", &self.settings.maker]),
-            Command::TypeName => plain(&[b"K4", &self.settings.type_name]),
-            Command::Fixed => self.fixed_data(),
+            Command::Maker => plain(&[b"K3", &settings.maker]),
+            Command::TypeName => plain(&[b"K4", &settings.type_name]),
+            Command::Fixed => self.fixed_data(settings),
             Command::Temperature => plain(&[b"P", &degrees(self.measurement.temperature)]),
-            Command::Film(letter, film) => plain(&[&[letter], b"0.0", &three_digits(self.settings.blur[usize::from(film)])]),
+            Command::Film(letter, film) => plain(&[&[letter], b"0.0", &three_digits(settings.blur[usize::from(film)])]),
             Command::Unit(letter, ..) => plain(&[&[letter]]),
             Command::Unknown => plain(&[b"?"]),
         };

@@ -1,11 +1,12 @@
-//! The replay of a capture over the reference port, written from request [3] and its readings alone. A line of a capture, and
-//! what is printed for it:
+//! The replay of a capture over the reference port, written from requests [3] and [8] and their readings alone. A line of a
+//! capture, and what is printed for it:
 //!
 //!   R hh    byte hh is received                                        nothing, or `refused 7` if its line is dropped
 //!   S n     n slots, 1..999                                            the bytes sent in hex, -- for an idle slot
 //!   M ..    a measurement: fields 1 to 11, unit letter, temperature    nothing, or `refused 1`
 //!
 //! A line of another form prints `refused 10` and ends the run, as slot 100,000 does. Last comes `slots` and the number run.
+//! With the argument `ports` a port number, 0 or 1, and a space may stand before an event; without it the event is port 0's.
 
 use crate::port::{Line, Measurement, Port, Refusal, Settings};
 
@@ -22,10 +23,13 @@ const LF: u8 = b'\n';
 /// Fields 1 to 11 of record R.
 pub const FIELDS_OF_R: [i32; 11] = [798, 680, 56, 5, 0, 6123, 711, 909, 273, 23, 0];
 
-/// The session program's lens: its settings with this start-up letter, and its measurement.
+/// The session program's lens: its settings, which the ports share, and at each port its measurement. Port 0 is the camera
+/// contacts, port 1 the external connector.
+#[derive(Clone)]
 pub struct Lens {
-    pub port: Port,
-    line: Line,
+    pub settings: Settings,
+    pub ports: [Port; 2],
+    lines: [Line; 2],
 }
 
 impl Lens {
@@ -43,12 +47,16 @@ impl Lens {
             type_name: [b' '; 30],
             blur: [250; 32],
         };
-        let port = Port::start(settings, Measurement { unit: b'I', fields: FIELDS_OF_R, temperature: 21 })?;
-        Ok(Lens { port, line: Line::empty() })
+        let port = Port::start(&settings, Measurement { unit: b'I', fields: FIELDS_OF_R, temperature: 21 })?;
+        Ok(Lens { settings, ports: [port.clone(), port], lines: [Line::empty(), Line::empty()] })
     }
 
-    pub fn receive(&mut self, byte: u8) -> Result<(), Refusal> {
-        self.port.receive(&mut self.line, byte)
+    pub fn receive(&mut self, at: usize, byte: u8) -> Result<(), Refusal> {
+        self.ports[at].receive(&mut self.lines[at], byte)
+    }
+
+    pub fn slot(&mut self, at: usize) -> Option<u8> {
+        self.ports[at].slot(&mut self.settings)
     }
 }
 
@@ -61,8 +69,16 @@ pub enum Event {
     Measured(Measurement),
 }
 
-/// What a line says, without its LF; none if it is of another form.
-pub fn event(line: &[u8]) -> Option<Event> {
+/// What a line says, without its LF, and the port where it occurs; none if it is of another form. `ports` is whether that
+/// argument is given.
+pub fn occurs(ports: bool, line: &[u8]) -> Option<(usize, Event)> {
+    match *line {
+        [number @ b'0'..=b'1', b' ', ref rest @ ..] if ports => Some((usize::from(number - b'0'), event(rest)?)),
+        _ => Some((0, event(line)?)),
+    }
+}
+
+fn event(line: &[u8]) -> Option<Event> {
     let mut words = line.split(|&byte| byte == b' ');
     let event = match words.next()? {
         b"R" => Event::Received(byte(words.next()?)?),
@@ -134,18 +150,19 @@ pub trait Watch {
     /// A line is looked at, with so many bytes printed before it.
     fn line(&mut self, _printed: usize) {}
 
-    /// A byte was received.
-    fn received(&mut self, _port: &Port, _answer: Result<(), Refusal>) {}
+    /// A byte was received at a port.
+    fn received(&mut self, _lens: &Lens, _at: usize, _answer: Result<(), Refusal>) {}
 
-    /// Runs one slot.
-    fn slot(&mut self, port: &mut Port) -> Option<u8> {
-        port.slot()
+    /// Runs one slot of a port.
+    fn slot(&mut self, lens: &mut Lens, at: usize) -> Option<u8> {
+        lens.slot(at)
     }
 
-    /// A measurement was handed in.
-    fn measured(&mut self, _answer: Result<(), Refusal>) {}
+    /// A measurement was handed in at a port.
+    fn measured(&mut self, _at: usize, _answer: Result<(), Refusal>) {}
 
-    fn ended(&mut self, _end: End) {}
+    /// The run ended, with so many bytes printed before `slots`.
+    fn ended(&mut self, _end: End, _printed: usize) {}
 }
 
 /// Nobody.
@@ -156,28 +173,28 @@ fn lines(input: &[u8]) -> impl Iterator<Item = &[u8]> {
     input.split_inclusive(|&byte| byte == LF).map(|line| line.strip_suffix(&[LF]).unwrap_or(line))
 }
 
-/// The text that is printed for a capture from a start with this letter.
-pub fn replay(letter: u8, input: &[u8], watch: &mut impl Watch) -> Result<Vec<u8>, Refusal> {
+/// The text that is printed for a capture from a start with this letter; `ports` is whether that argument is given.
+pub fn replay(ports: bool, letter: u8, input: &[u8], watch: &mut impl Watch) -> Result<Vec<u8>, Refusal> {
     let mut lens = Lens::start(letter)?;
     let mut out = Vec::new();
     let mut slots = 0;
     let mut end = End::Input;
     for line in lines(input) {
         watch.line(out.len());
-        match event(line) {
-            Some(Event::Received(byte)) => {
-                let answer = lens.receive(byte);
-                watch.received(&lens.port, answer);
+        match occurs(ports, line) {
+            Some((at, Event::Received(byte))) => {
+                let answer = lens.receive(at, byte);
+                watch.received(&lens, at, answer);
                 put_answer(&mut out, answer);
             }
-            Some(Event::Slots(asked)) => {
+            Some((at, Event::Slots(asked))) => {
                 let count = asked.min(MOST_SLOTS - slots);
-                put_slots(&mut out, (0..count).map(|_| watch.slot(&mut lens.port)));
+                put_slots(&mut out, (0..count).map(|_| watch.slot(&mut lens, at)));
                 slots += count;
             }
-            Some(Event::Measured(measurement)) => {
-                let answer = lens.port.measure(measurement);
-                watch.measured(answer);
+            Some((at, Event::Measured(measurement))) => {
+                let answer = lens.ports[at].measure(measurement);
+                watch.measured(at, answer);
                 put_answer(&mut out, answer);
             }
             None => {
@@ -191,8 +208,8 @@ pub fn replay(letter: u8, input: &[u8], watch: &mut impl Watch) -> Result<Vec<u8
             break;
         }
     }
+    watch.ended(end, out.len());
     out.extend(format!("slots {slots}\n").bytes());
-    watch.ended(end);
     Ok(out)
 }
 

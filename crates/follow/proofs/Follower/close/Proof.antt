@@ -3,7 +3,7 @@ use mathlib.Core.Bool.{true}
 use mathlib.Core.List.{append-nil}
 use mathlib.Core.Path.{_≡_, sym, ap, _∙_}
 use borrow.Author.Tests.{not-true, not-false}
-use Rattle.capture.specs.Capture.{eventOf}
+use Rattle.runs.specs.Runs.{eventAt}
 use Rattle.follow.specs.Follow.{validFollower, heldIn}
 use Rattle.follow.proofs.Laws.{valid-text, close-16, close-none, close-line}
 use borrow.Author.Needs.{needs}
@@ -50,7 +50,7 @@ returns-3 c =
     let i = e .before .before in
     let v = i .before .before .before .before in
     let a = v .before .before .before .args in
-    let line = e .event .ensures ∙ ap eventOf (append-nil (heldIn (a .self .text))) in
+    let line = e .event .ensures ∙ ap (eventAt (a .self .ports)) (append-nil (heldIn (a .self .text))) in
     let g = close-line (a .self) (a .out .now) (valid v) (i .if2 .left) line (t .tell .ensures) in
     record { answers = c .followed .ensures ∙ g .answers; leaves = g .leaves }
 

@@ -20,13 +20,13 @@ enum-known-wrote-2 c = search needs
 returns : tie.Need-returns
 returns c =
     let a = c .before .before .before .before .before .args in
-    at (followedAs (a .self) (a .told .run) (a .used)) (c .before .before .wrote .given .1)
-    (ap (λ (t : Text). record { wrote = Count (c .before .before .wrote .given .0 .0); used = a .used; follower = record { run = a .told .run; text = t } }) (c .blank .ensures))
+    at (followedAs (a .self) (a .told .runs) (a .used)) (c .before .before .wrote .given .1)
+    (ap (λ (t : Text). record { wrote = Count (c .before .before .wrote .given .0 .0); used = a .used; follower = record { runs = a .told .runs; text = t; ports = a .self .ports } }) (c .blank .ensures))
 
 returns-2 : tie.Need-returns-2
 returns-2 c =
     let a = c .before .before .before .before .args in
-    at (followedAs (a .self) (a .told .run) (a .used)) (c .before .wrote2 .given .1) refl
+    at (followedAs (a .self) (a .told .runs) (a .used)) (c .before .wrote2 .given .1) refl
 
 pub followed-spec : {M : Type 1} → statement M
 followed-spec =

@@ -7,10 +7,9 @@ use borrow.Author.Tests.{not-true, not-false}
 use lib.ListN.{take}
 use Rattle.frame.specs.declared.Wrote.the-variants.{Count}
 use Rattle.capture.specs.Words.{before}
-use Rattle.capture.specs.Capture.{eventOf}
 use Rattle.capture.proofs.Words.{before-low}
 use Rattle.printed.specs.Printed.{LF}
-use Rattle.follow.specs.Follow.{validFollower, lineIn, followedBy}
+use Rattle.follow.specs.Follow.{validFollower, eventIn, followedBy}
 use Rattle.follow.specs.declared.Text.{Text}
 use Rattle.follow.proofs.Laws.{valid-text, take-16, take-hold, take-line}
 use borrow.Author.Needs.{needs}
@@ -41,7 +40,7 @@ returns-2 c =
     let all = c .before .if2 .taken in
     let g = take-hold (a .self) (a .piece .now) (a .out .now) (valid (b .before)) (sym (b .bytes-before .ensures) ∙ all) in
     record {
-      answers = ap₂ (λ (n : ℕ) (t : Text). record { wrote = Count 0; used = n; follower = record { run = a .self .run; text = t } }) all (c .joined .ensures) ∙ g .answers;
+      answers = ap₂ (λ (n : ℕ) (t : Text). record { wrote = Count 0; used = n; follower = record { runs = a .self .runs; text = t; ports = a .self .ports } }) all (c .joined .ensures) ∙ g .answers;
       leaves = g .leaves;
     }
 
@@ -86,7 +85,7 @@ returns-3 c =
     let end = b .bytes-before .result in
     let is : end ≡ before LF (a .piece .now) = b .bytes-before .ensures in
     let k : end - 0 ≡ end = omega arith in
-    let line = e .event .ensures ∙ ap (λ (n : ℕ). eventOf (lineIn (a .self) (take n (a .piece .now)))) (k ∙ is) in
+    let line = e .event .ensures ∙ ap (λ (n : ℕ). eventIn (a .self) (take n (a .piece .now))) (k ∙ is) in
     let g = take-line (a .self) (a .piece .now) (a .out .now) (valid (b .before)) (λ q. i .if2 .left (is ∙ q)) line (t .tell .ensures) in
     record {
       answers = c .followed .ensures ∙ ap (λ (n : ℕ). followedBy (a .self) (t .tell .result) (n + 1)) is ∙ g .answers;

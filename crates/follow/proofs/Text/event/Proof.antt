@@ -5,7 +5,7 @@ use mathlib.Core.Path.{_≡_, sym, ap, subst, _∙_}
 use native.Mathlib.Omega.{arith}
 use borrow.Author.Tests.{leb-true}
 use lib.ListN.{take}
-use Rattle.capture.specs.Capture.{eventOf}
+use Rattle.runs.specs.Runs.{eventAt}
 use Rattle.follow.specs.Follow.{heldIn}
 use Rattle.follow.specs.declared.Text.{Text}
 use Rattle.follow.proofs.Laws.{Sound, joined-sound, tells-event}
@@ -13,8 +13,8 @@ use borrow.Author.Needs.{needs}
 use Rattle.follow.proofs.Text.event.Statement.{statement}
 use Rattle.follow.proofs.Text.event.Tie as tie
 
-event-of-requires : tie.Need-event-of-requires
-event-of-requires c κs = search needs
+event-at-requires : tie.Need-event-at-requires
+event-at-requires c κs = search needs
 
 sound : (c : tie.Start) → Sound (c .args .self)
 sound c = record { long = search needs; few = leb-true _ _ (c .pre) }
@@ -29,25 +29,25 @@ returns : tie.Need-returns
 returns c =
     let a = c .before .before .before .before .args in
     let z : a .self .len ≡ 0 = c .before .if1 .taken in
-    c .event-of .ensures ∙ ap (λ (n : ℕ). eventOf (take n (a .self .bytes) ++ a .part .now)) (sym z)
+    c .event-at .ensures ∙ ap (λ (n : ℕ). eventAt (a .ports) (take n (a .self .bytes) ++ a .part .now)) (sym z)
 
 joined-requires : tie.Need-joined-requires
 joined-requires c κs = search needs
 
-sub-event-of : tie.Need-sub-event-of
-sub-event-of c = search needs
+sub-event-at : tie.Need-sub-event-at
+sub-event-at c = search needs
 
-part-event-of-start : tie.Need-part-event-of-start
-part-event-of-start c = search needs
+part-event-at-start : tie.Need-part-event-at-start
+part-event-at-start c = search needs
 
-part-event-of-end : tie.Need-part-event-of-end
-part-event-of-end c =
+part-event-at-end : tie.Need-part-event-at-end
+part-event-at-end c =
     let j = c .before .before in
     let s = held j in
     omega (arith, s .few, s .long)
 
-event-of-requires-2 : tie.Need-event-of-requires-2
-event-of-requires-2 c κs = search needs
+event-at-requires-2 : tie.Need-event-at-requires-2
+event-at-requires-2 c κs = search needs
 
 returns-2 : tie.Need-returns-2
 returns-2 c =
@@ -55,20 +55,20 @@ returns-2 c =
     let s = j .before .before .before .before in
     let n = j .joined .result .len in
     let k : n - 0 ≡ n = omega arith in
-    c .event-of2 .ensures
-    ∙ ap (λ (i : ℕ). eventOf (take i (j .joined .result .bytes))) k
-    ∙ ap (λ (t : Text). eventOf (heldIn t)) (j .joined .ensures)
-    ∙ tells-event (s .args .self) (s .args .part .now) (sound s)
+    c .event-at2 .ensures
+    ∙ ap (λ (i : ℕ). eventAt (s .args .ports) (take i (j .joined .result .bytes))) k
+    ∙ ap (λ (t : Text). eventAt (s .args .ports) (heldIn t)) (j .joined .ensures)
+    ∙ tells-event (s .args .ports) (s .args .self) (s .args .part .now) (sound s)
 
 pub event-spec : {M : Type 1} → statement M
 event-spec =
     tie.close
     (tie.spec
-    event-of-requires
+    event-at-requires
     returns
     joined-requires
-    sub-event-of
-    part-event-of-start
-    part-event-of-end
-    event-of-requires-2
+    sub-event-at
+    part-event-at-start
+    part-event-at-end
+    event-at-requires-2
     returns-2)

@@ -1,0 +1,3 @@
+pub mod Connectors
+pub mod Promises
+pub mod Contracts

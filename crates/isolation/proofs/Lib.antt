@@ -1,0 +1,10 @@
+pub mod Turns
+pub mod Acts
+pub mod Sees
+pub mod EachPort
+pub mod TwoRuns
+pub mod Same
+pub mod Places
+pub mod Alike
+pub mod Isolated
+pub mod Differs
