@@ -272,7 +272,7 @@ fn run(desk: Desk) {
 }
 
 // Both ports, from a start with this letter.
-pub fn serve(letter: u8) {
+pub(crate) fn serve(letter: u8) {
     let measurement = bench_lens::bench_measurement();
     let blank = Lines {
         camera: Line::blank(),
