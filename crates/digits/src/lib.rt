@@ -1,6 +1,7 @@
 // Numbers as digits, highest first: decimal digits for text, groups of six bits for the packed form.
 // One reader serves both, over the base and what a digit is sent on top of. The writer of decimal digits
 // subtracts powers of ten, since the box has no divider.
+#![tactic(auto)]
 ghost use Rattle.std.specs.Prelude.{◌≡◌, suc, ◌+◌, ◌*◌, ◌/◌, ◌%◌, ◌^◌, ◌<◌, ◌≤◌, length};
 ghost use Rattle.laws.specs.Over.{over};
 ghost use Rattle.digits.specs.Digits.{decimal, read_field};

@@ -1,6 +1,7 @@
 // Decimal digits by division, for a computer that has a divider. The writer of the crate digits, which the box has,
 // subtracts powers of ten instead; this one promises the same.
 // Four digits and eight are made at once, in a word whose bytes are the digits, first digit lowest, and stored as one; others two at a time.
+#![tactic(auto)]
 ghost use Rattle.std.specs.Prelude.{◌≡◌, ◌+◌, ◌≤◌, ◌<◌, length};
 ghost use Rattle.laws.specs.Lowest.{lowest_first};
 ghost use Rattle.laws.specs.Over.{over};

@@ -13,6 +13,7 @@
 // that the port has then; a signal may end a sleep early. So that it can look without waiting, whoever starts
 // it sets O_NONBLOCK on standard input. Until a look has come back empty, it takes its input for one that
 // waits.
+#![tactic(auto)]
 mod ports;
 
 ghost use Rattle.std.specs.Prelude.{◌≡◌};

@@ -1,6 +1,7 @@
 // For a C host: the writers, the readers, the owner's part, packed records as text, old lines moved, the conversion and the checksum, on
 // numbers and byte slices; the line collector that the host keeps; and for the camera side the cutter and the
 // recorder, by value. No rule of the paper stands here.
+#![tactic(auto)]
 ghost use Rattle.std.specs.Prelude.{true, ◌≡◌};
 ghost use Rattle.refusal.specs.Answer.{accepted, refused};
 ghost use Rattle.frame.specs.Message.{room_for};

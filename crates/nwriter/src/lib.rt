@@ -1,4 +1,5 @@
 // The writer of the N message.
+#![tactic(auto)]
 ghost use Rattle.std.specs.Prelude.{◌≡◌, ◌≤◌, length};
 ghost use Rattle.laws.specs.Over.{over};
 ghost use Rattle.fixed.specs.Form.{fixed_length};

@@ -10,6 +10,7 @@
 // and a line without it is port 0's. An event that is refused prints `refused` and its number; a line of other form
 // prints `refused 10` and ends the run, as slot 100,000 does. Last come `slots` and the number run, on both ports. The
 // lens is the bench lens, on both ports; LETTER is another start-up letter than I.
+#![tactic(auto)]
 ghost use Rattle.std.specs.Prelude.{◌≡◌, ◌+◌, ◌≤◌, length};
 ghost use Rattle.replay.specs.Desk.{count_in};
 

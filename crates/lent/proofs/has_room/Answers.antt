@@ -6,8 +6,7 @@ use native.Mathlib.Omega.{arith}
 use borrow.Author.Tests.{le-leb, lt-leb, leb-true, leb-false}
 use lib.Dec.{leb}
 use Rattle.laws.proofs.Tests.{told}
-use Rattle.lent.proofs.has_room.Statement.{statement}
-use Rattle.lent.proofs.has_room.Tie as tie
+use Rattle.lent.proofs.has_room.Goals as goal
 
 short : (len at n : ℕ) → len < n → leb (at + n) len ≡ false
 short len at n h = lt-leb (at + n) len (omega arith)
@@ -22,11 +21,8 @@ moved len at n h =
     let k = leb-false at (len - n) e in
     e ∙ sym (lt-leb (at + n) len (omega arith)))
 
-returns : tie.Need-returns
-returns c = sym (short _ _ _ c.if1.true)
+pub returns-then-len-n : goal.returns-then-len-n
+returns-then-len-n c = sym (short _ _ _ c.if-len-n.true)
 
-returns-2 : tie.Need-returns-2
-returns-2 c = moved _ _ _ c.if1.false
-
-pub has_room_spec : {M : Type 1} → statement M
-has_room_spec = tie.close (tie.spec returns returns-2)
+pub returns : goal.returns
+returns c = moved _ _ _ c.if-len-n.false
