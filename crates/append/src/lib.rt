@@ -8,7 +8,7 @@ ghost use Rattle.append.specs.Clauses.{NoteEmpty, NoteIsValid, NoteLength, NoteA
 use line::{LINE_LENGTH, Line};
 use note::NOTE_LENGTH;
 
-#[derive(Drop)]
+#[derive(Clone, Copy)]
 pub struct Note {
     // Whether OD sets it; closed, it is empty.
     pub opened: bool,
@@ -17,7 +17,7 @@ pub struct Note {
 }
 
 // What a line did to a note: whether it was one of the three commands, and the note after it.
-#[derive(Drop)]
+#[derive(Clone, Copy)]
 pub struct Noted {
     pub known: bool,
     pub note: Note,

@@ -12,7 +12,7 @@ use record::Figures;
 use units::Measurement;
 
 // The event that a line tells.
-#[derive(Drop)]
+#[derive(Clone, Copy)]
 pub enum Event {
     // `R hh`: a received byte.
     Received(u8),
@@ -25,7 +25,7 @@ pub enum Event {
 }
 
 // What a word of M says: a whole number, or what is none.
-#[derive(Drop)]
+#[derive(Clone, Copy)]
 enum Whole {
     Value(i32),
     Wrong,

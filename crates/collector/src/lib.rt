@@ -7,7 +7,7 @@ use line::Line;
 use refusal::Refusal;
 
 #[repr(C)]
-#[derive(Drop)]
+#[derive(Clone, Copy)]
 pub struct Collected {
     // 0 done; 16 a count past the buffer
     pub number: u32,
@@ -65,7 +65,7 @@ pub fn collect(line: &mut Line, byte: u8) -> Collected
 }
 
 // The collector after a received byte, and the answer.
-#[derive(Drop)]
+#[derive(Clone, Copy)]
 pub struct Updated {
     pub line: Line,
     pub answer: Collected,

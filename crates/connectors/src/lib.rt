@@ -13,21 +13,21 @@ use state::{Last, Message, Modes, Source, Waiting};
 use units::Measurement;
 
 // The camera contacts, and the external connector.
-#[derive(Drop)]
+#[derive(Clone, Copy)]
 pub enum Side {
     Camera,
     External,
 }
 
 // What a port number names.
-#[derive(Drop)]
+#[derive(Clone, Copy)]
 pub enum Named {
     At(Side),
     Nowhere,
 }
 
 // What a port has of its own, beside the line that its driver collects.
-#[derive(Drop)]
+#[derive(Clone, Copy)]
 pub struct Connector {
     pub measurement: Measurement,
     pub modes: Modes,
@@ -36,7 +36,7 @@ pub struct Connector {
     pub waiting: Waiting,
 }
 
-#[derive(Drop)]
+#[derive(Clone, Copy)]
 pub struct Connectors {
     pub settings: Settings,
     pub camera: Connector,
@@ -44,41 +44,41 @@ pub struct Connectors {
 }
 
 // The lines of both ports.
-#[derive(Drop)]
+#[derive(Clone, Copy)]
 pub struct Lines {
     pub camera: Line,
     pub external: Line,
 }
 
 // What a start hands back: the lines too, both empty where it is accepted.
-#[derive(Drop)]
+#[derive(Clone, Copy)]
 pub struct StartedBoth {
     pub verdict: Verdict,
     pub connectors: Connectors,
     pub lines: Lines,
 }
 
-#[derive(Drop)]
+#[derive(Clone, Copy)]
 pub struct ReceivedAt {
     pub verdict: Verdict,
     pub connectors: Connectors,
     pub line: Line,
 }
 
-#[derive(Drop)]
+#[derive(Clone, Copy)]
 pub struct SlottedAt {
     pub sent: Sent,
     pub connectors: Connectors,
 }
 
 // What a new measurement hands back.
-#[derive(Drop)]
+#[derive(Clone, Copy)]
 pub struct HandedAt {
     pub verdict: Verdict,
     pub connectors: Connectors,
 }
 
-#[derive(Drop)]
+#[derive(Clone, Copy)]
 pub struct FilledAt {
     pub verdict: Verdict,
     // the bytes written, a byte for each sending slot that was run

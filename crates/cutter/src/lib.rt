@@ -16,14 +16,14 @@ const BLOCK: usize = 8;
 // The bytes since the last end of a message. A count of one more than it holds stands for any more of them:
 // then only the last byte is kept, in the last place.
 #[repr(C)]
-#[derive(Drop)]
+#[derive(Clone, Copy)]
 pub struct Cutter {
     pub bytes: [u8; CUTTER_LENGTH],
     pub len: usize,
 }
 
 // What a call makes of a piece; the message that ended goes to lent memory.
-#[derive(Drop)]
+#[derive(Clone, Copy)]
 pub struct Cut {
     // The message's length, 0 where none ended; 16, 9, then 2.
     pub wrote: Wrote,

@@ -8,7 +8,7 @@ ghost use Rattle.digits.specs.Digits.{decimal, read_field};
 ghost use Rattle.digits.specs.Clauses.{PutDecimal, PutGroups, ReadDecimal, ReadGroups};
 
 // What the bytes of a field hold: a number, or what no writer writes.
-#[derive(Drop)]
+#[derive(Clone, Copy)]
 pub enum Field {
     Value(u32),
     Wrong,
@@ -81,7 +81,7 @@ fn uncounted(x: u32) -> u32
 }
 
 // A number cut above its seven lowest digits.
-#[derive(Drop)]
+#[derive(Clone, Copy)]
 struct HighLow {
     high: u32,
     low: u32,

@@ -30,13 +30,13 @@ use refusal::Verdict;
 const MOST: usize = 400;
 
 // The port and its collector.
-#[derive(Drop)]
+#[derive(Clone, Copy)]
 struct Held {
     port: Port,
     line: Line,
 }
 
-#[derive(Drop)]
+#[derive(Clone, Copy)]
 struct Desk {
     lens: Held,
     // no look has come back empty yet: the input may be one that waits
@@ -48,7 +48,7 @@ struct Desk {
 }
 
 // What a turn's slots left.
-#[derive(Drop)]
+#[derive(Clone, Copy)]
 struct Turn {
     port: Port,
     // the slots filled the buffer: there may be more to send
@@ -57,7 +57,7 @@ struct Turn {
 }
 
 // What a look at the input found.
-#[derive(Drop)]
+#[derive(Clone, Copy)]
 enum Seen {
     Byte(u8),
     Nothing,

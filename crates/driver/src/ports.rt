@@ -30,7 +30,7 @@ const TICK: i64 = 1041667;
 const MOST: usize = 24;
 
 // A port as the driver serves it.
-#[derive(Drop)]
+#[derive(Clone, Copy)]
 struct Plug {
     number: u8,
     input: i32,
@@ -41,7 +41,7 @@ struct Plug {
 }
 
 // The box, and one of its ports in a tick.
-#[derive(Drop)]
+#[derive(Clone, Copy)]
 struct Served {
     connectors: Connectors,
     plug: Plug,
@@ -49,7 +49,7 @@ struct Served {
     goes_on: bool,
 }
 
-#[derive(Drop)]
+#[derive(Clone, Copy)]
 struct Desk {
     connectors: Connectors,
     camera: Plug,
@@ -57,7 +57,7 @@ struct Desk {
 }
 
 // How many bytes a line took; one that is gone takes no more.
-#[derive(Drop)]
+#[derive(Clone, Copy)]
 struct Took {
     count: usize,
     gone: bool,

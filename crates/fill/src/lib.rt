@@ -8,7 +8,7 @@ ghost use Rattle.fill.specs.Clauses.{Fill};
 use port::{Port, Sent};
 use refusal::{Refusal, Verdict};
 
-#[derive(Drop)]
+#[derive(Clone, Copy)]
 pub struct Filled {
     pub verdict: Verdict,
     // the bytes written, a byte for each sending slot that was run
@@ -17,7 +17,7 @@ pub struct Filled {
 }
 
 // Slots that went on with a message: how many, and the port after them.
-#[derive(Drop)]
+#[derive(Clone, Copy)]
 struct Onward {
     count: usize,
     port: Port,

@@ -11,7 +11,7 @@ use refusal::{Refusal, Verdict};
 pub const FIXED_LENGTH: usize = 65;
 
 // Items 1 to 8: what the N message carries.
-#[derive(Drop)]
+#[derive(Clone, Copy)]
 pub struct Fixed {
     // 1
     pub serial: [u8; 9],
@@ -32,7 +32,7 @@ pub struct Fixed {
 }
 
 // Items 3 to 7: what is no text.
-#[derive(Drop)]
+#[derive(Clone, Copy)]
 pub struct Lens {
     pub kind: u8,
     pub focal: u32,
@@ -42,7 +42,7 @@ pub struct Lens {
 }
 
 // Items 1 to 11.
-#[derive(Drop)]
+#[derive(Clone, Copy)]
 pub struct Settings {
     pub fixed: Fixed,
     // 9
@@ -54,7 +54,7 @@ pub struct Settings {
 }
 
 // What hands fixed data back: done, or a refusal, and then the items are zero.
-#[derive(Drop)]
+#[derive(Clone, Copy)]
 pub struct FixedRead {
     pub verdict: Verdict,
     pub contents: Fixed,

@@ -13,13 +13,13 @@ use runs::{Addressed, Runs, ToldAt};
 pub const HELD_LENGTH: usize = 138;
 
 // The first bytes of the line that is coming in.
-#[derive(Drop)]
+#[derive(Clone, Copy)]
 pub struct Text {
     pub bytes: [u8; HELD_LENGTH],
     pub len: usize,
 }
 
-#[derive(Drop)]
+#[derive(Clone, Copy)]
 pub struct Follower {
     pub runs: Runs,
     pub text: Text,
@@ -28,14 +28,14 @@ pub struct Follower {
 }
 
 // What a start hands back.
-#[derive(Drop)]
+#[derive(Clone, Copy)]
 pub struct Begun {
     pub verdict: Verdict,
     pub follower: Follower,
 }
 
 // What a call makes of a piece.
-#[derive(Drop)]
+#[derive(Clone, Copy)]
 pub struct Followed {
     // How many bytes it printed; 16, then 2.
     pub wrote: Wrote,

@@ -8,14 +8,14 @@ ghost use Rattle.frame.specs.Clauses.{SumOf, EndingWidth, RoomFor, PutEnding, Op
 use refusal::{Refusal, Verdict};
 
 // The two characters of a checksum.
-#[derive(Drop)]
+#[derive(Clone, Copy)]
 pub struct Sum {
     pub high: u8,
     pub low: u8,
 }
 
 // What a writer of a message answers: the count of bytes written, or the refusal that wrote none.
-#[derive(Drop)]
+#[derive(Clone, Copy)]
 pub enum Wrote {
     Count(usize),
     Refused(Refusal),

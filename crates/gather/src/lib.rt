@@ -7,21 +7,21 @@ use record::{Figures, Record, RecordRead};
 use refusal::Refusal;
 
 // Fields 1 to 4 or 5 to 8, or the first wrong one.
-#[derive(Drop)]
+#[derive(Clone, Copy)]
 pub enum Four {
     Found(u32, u32, u32, u32),
     Wrong(u32),
 }
 
 // Fields 9 to 11, or the first wrong one.
-#[derive(Drop)]
+#[derive(Clone, Copy)]
 pub enum Three {
     Found(u32, i32, u32),
     Wrong(u32),
 }
 
 // Fields 1 to 11, or the first wrong one.
-#[derive(Drop)]
+#[derive(Clone, Copy)]
 pub enum Eleven {
     Found(Figures),
     Wrong(u32),

@@ -24,7 +24,7 @@ use units::Converted;
 
 // The refusal's number, or 0; and the value that comes with it, or the count.
 #[repr(C)]
-#[derive(Drop)]
+#[derive(Clone, Copy)]
 pub struct Answer {
     pub number: u32,
     pub value: u64,
@@ -32,7 +32,7 @@ pub struct Answer {
 
 // The refusal's number, or 0; refused, the field; done, the number converted.
 #[repr(C)]
-#[derive(Drop)]
+#[derive(Clone, Copy)]
 pub struct Conversion {
     pub number: u32,
     pub field: u32,
@@ -42,7 +42,7 @@ pub struct Conversion {
 // What a call makes of a piece of a stream: an answer; how many bytes it used; whether a message ended with them; and
 // the cutter for what follows.
 #[repr(C)]
-#[derive(Drop)]
+#[derive(Clone, Copy)]
 pub struct CutValue {
     pub number: u32,
     pub value: u64,
@@ -53,7 +53,7 @@ pub struct CutValue {
 
 // What a recorder hands out to be sent.
 #[repr(C)]
-#[derive(Drop)]
+#[derive(Clone, Copy)]
 pub struct SendValue {
     pub number: u32,
     pub value: u64,
@@ -62,7 +62,7 @@ pub struct SendValue {
 
 // What a recorder makes of a piece: as a cutter, and whether the message was read as fixed data.
 #[repr(C)]
-#[derive(Drop)]
+#[derive(Clone, Copy)]
 pub struct TakeValue {
     pub number: u32,
     pub value: u64,

@@ -9,7 +9,7 @@ pub const LINE_LENGTH: usize = 64;
 
 // The received bytes since the last carriage return. More than the line keeps make it overlong.
 #[repr(C)]
-#[derive(Drop)]
+#[derive(Clone, Copy)]
 pub struct Line {
     pub bytes: [u8; LINE_LENGTH],
     pub len: usize,
@@ -17,7 +17,7 @@ pub struct Line {
 }
 
 // The commands by their letters; every other line is unknown.
-#[derive(Drop)]
+#[derive(Clone, Copy)]
 pub enum Command {
     B,
     C,

@@ -61,7 +61,7 @@ module _ {r : Rules} where
     pub starts : o ≡ begins acting a_record byte others
 
   module _ {Good : Modes → Type 0} {W L R : ℕ} (fits : Sizes r Good W L R) where
-    open fits use {act_good, ended_good, update_good, uncounted_off, Ended-same, greeting_fits, reply_fits, record_fits, reply_in, record_in_lem}
+    open fits use {act_good, ended_good, update_good, uncounted_off, ended_same, greeting_fits, reply_fits, record_fits, reply_in, record_in_lem}
 
     -- ---- what always holds
     sent_one_good : (m : Modes) (bs : List ℕ) → Good m → Good (sent_one r m bs)
@@ -124,7 +124,7 @@ module _ {r : Rules} where
     not_reply m a-reply n on = absurd (true≢false (sym on ∙ n))
 
     sent_one_same : (m : Modes) (bs : List ℕ) → Good m → continuous (sent_one r m bs) ≡ continuous m
-    sent_one_same m [] g = Ended-same m g
+    sent_one_same m [] g = ended_same m g
     sent_one_same m (b ∷ bs) g = refl
 
     -- after a reply that leaves continuous sending on, a record is next

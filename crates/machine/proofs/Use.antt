@@ -38,7 +38,7 @@ module _ {r : Rules} where
 
   -- a record is among the messages that start
   pub record_seen : {limit : ℕ} {s : State r} {after : Events r} → RecordBy limit s after
-      → (some-before : List Kind) × (Some-after : List Kind) × (seen kinds_in s after ≡ some-before ++ a_record ∷ Some-after)
+      → (some_before : List Kind) × (some_after : List Kind) × (seen kinds_in s after ≡ some_before ++ a_record ∷ some_after)
   record_seen {s = s} {after = after} a = (
     seen kinds_in s a.mid,
     seen kinds_in (next (run s a.mid) slot) a.rest,

@@ -12,14 +12,14 @@ use fixed::{FIXED_LENGTH, FixedRead, Lens};
 use refusal::{Refusal, Verdict};
 
 // What a tag and a letter hold: the letter, or what no writer writes.
-#[derive(Drop)]
+#[derive(Clone, Copy)]
 enum Letter {
     Is(u8),
     Wrong,
 }
 
 // What is no text of the contents: the lens, or the first wrong item.
-#[derive(Drop)]
+#[derive(Clone, Copy)]
 enum Items {
     Found(Lens),
     Wrong(u32),

@@ -12,7 +12,7 @@ use refusal::{Refusal, Verdict};
 use state::{Last, Message, Modes, Sending, Source, State, Waiting};
 use units::Measurement;
 
-#[derive(Drop)]
+#[derive(Clone, Copy)]
 pub struct Port {
     pub source: Source,
     pub message: Message,
@@ -21,20 +21,20 @@ pub struct Port {
 }
 
 // What a slot sends.
-#[derive(Drop)]
+#[derive(Clone, Copy)]
 pub enum Sent {
     Byte(u8),
     Idle,
     Refused(Refusal),
 }
 
-#[derive(Drop)]
+#[derive(Clone, Copy)]
 pub struct Slotted {
     pub sent: Sent,
     pub port: Port,
 }
 
-#[derive(Drop)]
+#[derive(Clone, Copy)]
 pub struct Received {
     pub verdict: Verdict,
     pub port: Port,
@@ -42,14 +42,14 @@ pub struct Received {
 }
 
 // What a new measurement hands back.
-#[derive(Drop)]
+#[derive(Clone, Copy)]
 pub struct Handed {
     pub verdict: Verdict,
     pub port: Port,
 }
 
 // What a start hands back: the line too, empty where it is accepted.
-#[derive(Drop)]
+#[derive(Clone, Copy)]
 pub struct Started {
     pub verdict: Verdict,
     pub port: Port,

@@ -8,7 +8,7 @@ ghost use Rattle.pupil.specs.Clauses.{PutPupilText, PutPupilPacked, ReadPupilTex
 use digits::Field;
 
 // What the bytes of the field hold: a number, or none.
-#[derive(Drop)]
+#[derive(Clone, Copy)]
 pub enum Signed {
     Number(i32),
     Wrong,

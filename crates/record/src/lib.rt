@@ -16,7 +16,7 @@ pub const PACKED_LENGTH: usize = 39;
 pub const TEN_LENGTH: usize = 59;
 
 // Fields 1 to 11: what a record and a measurement share.
-#[derive(Drop)]
+#[derive(Clone, Copy)]
 pub struct Figures {
     // 1
     pub focus: u32,
@@ -43,14 +43,14 @@ pub struct Figures {
 }
 
 // Fields 1 to 12.
-#[derive(Drop)]
+#[derive(Clone, Copy)]
 pub struct Record {
     pub figures: Figures,
     pub serial: [u8; 9],
 }
 
 // What a reader of a record answers. On a refusal the record is zero.
-#[derive(Drop)]
+#[derive(Clone, Copy)]
 pub struct RecordRead {
     pub verdict: Verdict,
     pub contents: Record,

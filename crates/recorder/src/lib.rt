@@ -14,7 +14,7 @@ use refusal::{Refusal, Verdict};
 
 // The settings.
 #[repr(C)]
-#[derive(Drop)]
+#[derive(Clone, Copy)]
 pub struct Setup {
     // Records are packed, else text.
     pub packed: bool,
@@ -23,7 +23,7 @@ pub struct Setup {
 }
 
 #[repr(C)]
-#[derive(Drop)]
+#[derive(Clone, Copy)]
 pub struct Recorder {
     pub cutter: Cutter,
     pub setup: Setup,
@@ -34,7 +34,7 @@ pub struct Recorder {
 }
 
 // What it hands out to be sent.
-#[derive(Drop)]
+#[derive(Clone, Copy)]
 pub struct HandedOut {
     // How many bytes; 16, then 2.
     pub wrote: Wrote,
@@ -42,7 +42,7 @@ pub struct HandedOut {
 }
 
 // What it makes of a message.
-#[derive(Drop)]
+#[derive(Clone, Copy)]
 pub struct Made {
     pub verdict: Verdict,
     // It was read as fixed data, else as a record.
@@ -53,7 +53,7 @@ pub struct Made {
 }
 
 // What it makes of a piece.
-#[derive(Drop)]
+#[derive(Clone, Copy)]
 pub struct Recorded {
     // Of the message that ended; where none ended, done with nothing, or 16.
     pub made: Made,

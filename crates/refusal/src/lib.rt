@@ -2,7 +2,7 @@
 #![tactic(auto)]
 ghost use Rattle.refusal.specs.Clauses.{NumberOf, ValueOf, IsDone};
 
-#[derive(Drop)]
+#[derive(Clone, Copy)]
 pub enum Refusal {
     // 1: a record or measurement field out of range: the lowest one.
     Field(u32),
@@ -33,7 +33,7 @@ pub enum Refusal {
 }
 
 // Where the contents of an answer stand beside it: done, or the refusal that left them zero.
-#[derive(Drop)]
+#[derive(Clone, Copy)]
 pub enum Verdict {
     Done,
     Refused(Refusal),

@@ -25,7 +25,7 @@ const OUTPUT_LENGTH: usize = 65536;
 const LONGEST_TEXT: usize = 2997;
 
 // The follower, how many bytes of the output are unwritten, and whether more of the input is taken.
-#[derive(Drop)]
+#[derive(Clone, Copy)]
 struct Desk {
     follower: Follower,
     unwritten: usize,
@@ -33,14 +33,14 @@ struct Desk {
 }
 
 // The desk after a call, and how many bytes of the input it took.
-#[derive(Drop)]
+#[derive(Clone, Copy)]
 struct Step {
     desk: Desk,
     used: usize,
 }
 
 // What the arguments ask for, and whether that was all of them.
-#[derive(Drop)]
+#[derive(Clone, Copy)]
 struct Asked {
     ports: bool,
     letter: u8,

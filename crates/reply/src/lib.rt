@@ -17,7 +17,7 @@ use record::Record;
 use state::{MESSAGE_LENGTH, Message, Modes, Sending, Source, State};
 
 // A command acted on: the source after it, and the message of its reply, of length 0 where it has none.
-#[derive(Drop)]
+#[derive(Clone, Copy)]
 pub struct Acted {
     pub source: Source,
     pub message: Message,

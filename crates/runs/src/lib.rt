@@ -14,14 +14,14 @@ use refusal::{Refusal, Verdict};
 use telling::Run;
 
 // The event that a line tells, and the port that it is for.
-#[derive(Drop)]
+#[derive(Clone, Copy)]
 pub struct Addressed {
     pub side: Side,
     pub event: Event,
 }
 
 // Where the runs of both ports have come to.
-#[derive(Drop)]
+#[derive(Clone, Copy)]
 pub struct Runs {
     pub connectors: Connectors,
     pub lines: Lines,
@@ -32,14 +32,14 @@ pub struct Runs {
 }
 
 // What a start hands back.
-#[derive(Drop)]
+#[derive(Clone, Copy)]
 pub struct BegunBoth {
     pub verdict: Verdict,
     pub runs: Runs,
 }
 
 // What an event makes of the runs: how many bytes it printed, or the refusal that left all as it was.
-#[derive(Drop)]
+#[derive(Clone, Copy)]
 pub struct ToldAt {
     pub wrote: Wrote,
     pub runs: Runs,

@@ -11,14 +11,14 @@ use units::Measurement;
 // The bytes that the message under way sits in.
 pub const MESSAGE_LENGTH: usize = 128;
 
-#[derive(Drop)]
+#[derive(Clone, Copy)]
 pub enum State {
     Ready,
     Running,
 }
 
 // Continuous sending.
-#[derive(Drop)]
+#[derive(Clone, Copy)]
 pub enum Sending {
     Off,
     Text,
@@ -26,14 +26,14 @@ pub enum Sending {
 }
 
 // What was sent last, or is under way.
-#[derive(Drop)]
+#[derive(Clone, Copy)]
 pub enum Last {
     Neither,
     Record,
     Reply,
 }
 
-#[derive(Drop)]
+#[derive(Clone, Copy)]
 pub struct Modes {
     pub state: State,
     pub sending: Sending,
@@ -49,7 +49,7 @@ pub struct Modes {
 }
 
 // All that a message is made of.
-#[derive(Drop)]
+#[derive(Clone, Copy)]
 pub struct Source {
     pub settings: Settings,
     pub measurement: Measurement,
@@ -58,7 +58,7 @@ pub struct Source {
 
 // The message under way: its bytes, how many they are, and the place of the next one to be sent. None
 // is under way where the place is the length.
-#[derive(Drop)]
+#[derive(Clone, Copy)]
 pub struct Message {
     pub bytes: [u8; MESSAGE_LENGTH],
     pub len: usize,
@@ -66,7 +66,7 @@ pub struct Message {
 }
 
 // The waiting place: whether a command waits, and the line as it was taken.
-#[derive(Drop)]
+#[derive(Clone, Copy)]
 pub struct Waiting {
     pub some: bool,
     pub line: Line,

@@ -16,7 +16,7 @@ use units::Measurement;
 pub const LAST_SLOT: u32 = 100000;
 
 // Where the run of a capture has come to.
-#[derive(Drop)]
+#[derive(Clone, Copy)]
 pub struct Run {
     pub port: Port,
     pub line: Line,
@@ -27,14 +27,14 @@ pub struct Run {
 }
 
 // What a start hands back.
-#[derive(Drop)]
+#[derive(Clone, Copy)]
 pub struct Begun {
     pub verdict: Verdict,
     pub run: Run,
 }
 
 // What an event makes of a run: how many bytes it printed, or the refusal that left all as it was.
-#[derive(Drop)]
+#[derive(Clone, Copy)]
 pub struct Told {
     pub wrote: Wrote,
     pub run: Run,

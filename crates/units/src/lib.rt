@@ -13,7 +13,7 @@ ghost use Rattle.units.specs.Clauses.{Convert, CheckMeasurement, RecordOf};
 use record::{Figures, Record};
 use refusal::{Refusal, Verdict};
 
-#[derive(Drop)]
+#[derive(Clone, Copy)]
 pub struct Measurement {
     // I or M: the unit of fields 1, 6, 7, 8 and 10
     pub unit: u8,
@@ -23,7 +23,7 @@ pub struct Measurement {
 }
 
 // What the conversion answers.
-#[derive(Drop)]
+#[derive(Clone, Copy)]
 pub enum Converted {
     Value(i32),
     Refused(Refusal),

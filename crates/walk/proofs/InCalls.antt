@@ -108,18 +108,18 @@ module _ (h : Held) (b : ℕ) (cs : List Call) (f : FromStart h) (t : shows (vie
       (first.0, all_act h' cs f' ∙ ap (λ (x : State lens). acted x (events_all h' cs)) seen_so ∙ first.1)
 
   module _ (a : ActedBy act_by x' h.line (events_all h' cs)) where
-    waits : (Some-of others : List Call) → calls_of a.mid ≡ Some-of ++ others → (after_all h' Some-of).port.waiting ≡ holding h.line
+    waits : (some_of others : List Call) → calls_of a.mid ≡ some_of ++ others → (after_all h' some_of).port.waiting ≡ holding h.line
     unfolding view
-    waits Some-of others e =
-        let es = events_all h' Some-of in
-        let fs = events_all (after_all h' Some-of) others in
-        let parts : a.mid ≡ es ++ fs = sym (events_of_lem h' a.mid) ∙ ap (events_all h') e ∙ events_append h' Some-of others in
+    waits some_of others e =
+        let es = events_all h' some_of in
+        let fs = events_all (after_all h' some_of) others in
+        let parts : a.mid ≡ es ++ fs = sym (events_of_lem h' a.mid) ∙ ap (events_all h') e ∙ events_append h' some_of others in
         let none_yet : acted x' es ≡ [] = no_more _ (acted (run x' es) fs) (sym (ap (acted x') parts ∙ seen_append acted_in x' es fs) ∙ a.none_before) in
         let o = (here r).in_order (received b ∷ es) in
         let k : listed (waiting (view_of h)) ++ h.line ∷ taken x' es ≡ listed (waiting (run x' es)) =
         sym (ap (λ (z : List Line). listed (waiting (view_of h)) ++ (z ++ taken x' es)) (ap taken_in t)) ∙ o ∙ ap₂ (λ (y z : List Line). (y ++ z) ++ listed (waiting (run x' es))) (ap acted_in t) none_yet in
-        let v : view_of (after_all h' Some-of) ≡ run x' es = (all_follow h' Some-of r'.sound r'.line).state ∙ ap (λ (x : State lens). run x es) seen_so in
-        waits_some (after_all h' Some-of).port.waiting h.line (ap waiting v ∙ still_waits (waiting (view_of h)) (waiting (run x' es)) h.line (taken x' es) k)
+        let v : view_of (after_all h' some_of) ≡ run x' es = (all_follow h' some_of r'.sound r'.line).state ∙ ap (λ (x : State lens). run x es) seen_so in
+        waits_some (after_all h' some_of).port.waiting h.line (ap waiting v ∙ still_waits (waiting (view_of h)) (waiting (run x' es)) h.line (taken x' es) k)
 
     abbrev there : Held
     there = after_all h' (calls_of a.mid)

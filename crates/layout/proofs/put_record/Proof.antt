@@ -47,7 +47,7 @@ returns-2 c =
     let i = n.before.before.before in
     let s = i.before.before in
     run
-    (next _ (w.put-numbers.ensures ∙ ap (λ (x : List ℕ). over s.args.out.now 0 (four_each x)) n.Numbers-of.ensures) (numbers_long _)
+    (next _ (w.put-numbers.ensures ∙ ap (λ (x : List ℕ). over s.args.out.now 0 (four_each x)) n.numbers_of.ensures) (numbers_long _)
     (last _ t.put-text.ensures (nine s)))
     i.if1.false
 

@@ -21,8 +21,8 @@ signed-of-requires c κs = search rules
 returns-2 : tie.Need-returns-2
 unfolding signed_field
 returns-2 c =
-    let same : mir.Val.to_z mir.Syntax.w32 (mir.Val.of_z mir.Syntax.w32 c.Signed-of.result) ≡ c.Signed-of.result = to_z-of_z (search rules) in
-    rw (le-leb _ _ c.before.if1.false, same) (ap Number c.Signed-of.ensures)
+    let same : mir.Val.to_z mir.Syntax.w32 (mir.Val.of_z mir.Syntax.w32 c.signed_of.result) ≡ c.signed_of.result = to_z-of_z (search rules) in
+    rw (le-leb _ _ c.before.if1.false, same) (ap Number c.signed_of.ensures)
 
 pub signed_field_spec : {M : Type 1} → statement M
 signed_field_spec =

@@ -41,11 +41,11 @@ unfolding number_in
 returns c =
     let s = c.before.before in
     let b = s.before.before in
-    let z : to_z w32 (of_z w32 c.Signed-of.result) ≡ c.Signed-of.result = to_z-of_z (search rules) in
+    let z : to_z w32 (of_z w32 c.signed_of.result) ≡ c.signed_of.result = to_z-of_z (search rules) in
     let below : c.before.is_below.result ≡ below0 b.args.e = c.before.is_below.ensures ∙ ap below0 (own b) in
     let k : s.size_in.result ≡ size_in b.args.unit b.args.wanted (size b.args.e)
     = s.size_in.ensures ∙ ap (size_in b.args.unit b.args.wanted) (sized s.before) in
-    z ∙ c.Signed-of.ensures ∙ (λ i. signed_of (below i) (k i))
+    z ∙ c.signed_of.ensures ∙ (λ i. signed_of (below i) (k i))
 
 pub pupil_in_spec : {M : Type 1} → statement M
 pupil_in_spec = tie.close (tie.spec size-of-requires size-in-requires is-below-requires cast-signed-of signed-of-requires returns)

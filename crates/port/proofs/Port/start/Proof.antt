@@ -37,7 +37,7 @@ returns c =
     let v = s.before in
     let a = v.before.args in
     let e = v.check-start.ensures in
-    let h = g.handed-by.ensures ∙ both a.old e s.Started-with.ensures in
+    let h = g.handed-by.ensures ∙ both a.old e s.started_with.ensures in
     let l = c.line-by.ensures ∙ ap (λ (x : Verdict). line_by x a.line) e in
     λ i. of (h i) (l i)
 
