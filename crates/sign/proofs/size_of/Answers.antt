@@ -15,7 +15,7 @@ pub overflow_cast-w : goal.overflow_cast-w
 overflow_cast-w c = widens c.ranges.e
 
 pub overflow_sub-result : goal.overflow_sub-result
-overflow_sub-result c = rw (widened c.fits.e) (down c).ranges
+overflow_sub-result c = rw (widened c.ranges.e) (down c).fits
 
 pub overflow_cast-result : goal.overflow_cast-result
 overflow_cast-result c = rw (widened c.ranges.e, (down c).back) (tt, record { fits = (down c).small })

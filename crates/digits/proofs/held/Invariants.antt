@@ -1,0 +1,9 @@
+use Rattle.std.proofs.Common.{◌≡◌, ℕ, suc, ◌-◌, ◌*◌, ◌%◌, ◌^◌, ◌<◌, ◌≤◌, sym, ap, ◌∙◌, mod-eq_of_lt, arith, rules}
+use Rattle.digits.proofs.Powers.{may_split, splits, power_most}
+use Rattle.digits.proofs.held.Given as goal
+
+abbrev pub invariant-loop-zeros : goal.invariant-loop-zeros
+invariant-loop-zeros l = (l.width ≤ l.zeros) × (l.zeros ≤ 7) × (l.x ≡ 256 * (l.n % 10 ^ l.zeros))
+
+abbrev pub decreases-loop-zeros : goal.decreases-loop-zeros
+decreases-loop-zeros l = l.zeros
