@@ -40,6 +40,7 @@ module _ (ss : Ranges) where
 
   module _ (i : ℕ) where
     in_front : (rs : Ranges) → FirstOut rs i → FirstOut (rs ++ ss) i
+    in_front [] x' = elim x' [ ]
     in_front (r ∷ rs) (inl h) = inl h
     in_front (r ∷ rs) (inr h) = inr (h.0, in_front rs h.1)
 

@@ -1,4 +1,3 @@
-pub mod Calls
 pub mod Laws
 pub mod Unique
 pub mod Promises
