@@ -7,8 +7,7 @@ use borrow.Author.Rules.{rules}
 use borrow.Author.Tests.{eq-eqb, ne_eqb, eqb-true, eqb-false}
 use lib.Dec.{eqb}
 use Rattle.laws.proofs.Tests.{told}
-use Rattle.frame.proofs.has_length.Statement.{statement}
-use Rattle.frame.proofs.has_length.Tie as tie
+use Rattle.frame.proofs.has_length.Goals as goal
 
 short : (n w e f : ℕ) → e ≡ f → n < e → eqb n (w + f) ≡ false
 short n w e f p h = ne_eqb n (w + f) (λ q. omega arith)
@@ -21,14 +20,8 @@ moved n w e f p h =
     y ∙ sym (eq-eqb n (w + f) (omega arith)))
     (λ z. z ∙ sym (ne_eqb n (w + f) (λ q. eqb-false (n - e) w z (omega arith))))
 
-ending-width-requires : tie.Need-ending-width-requires
-ending-width-requires c κs = search rules
+pub returns-then-n-e : goal.returns-then-n-e
+returns-then-n-e c = sym (short _ _ _ _ c.ending_width-e.ensures c.if-n-e.true)
 
-returns : tie.Need-returns
-returns c = sym (short _ _ _ _ c.before.ending-width.ensures c.if1.true)
-
-returns-2 : tie.Need-returns-2
-returns-2 c = moved _ _ _ _ c.before.ending-width.ensures c.if1.false
-
-pub has_length_spec : {M : Type 1} → statement M
-has_length_spec = tie.close (tie.spec ending-width-requires returns returns-2)
+pub returns : goal.returns
+returns c = moved _ _ _ _ c.ending_width-e.ensures c.if-n-e.false

@@ -17,8 +17,18 @@ use Rattle.digits.proofs.Laws.{digits_read}
 use Rattle.codec.specs.Codec.{read_tagged}
 use Rattle.codec.proofs.Fields.{tagged_low}
 use Rattle.pointed.specs.Pointed.{point, with_tenths, read_pointed}
-use Rattle.pointed.proofs.read_pointed.Statement.{statement}
 use Rattle.pointed.proofs.read_pointed.Tie as tie
+use Rattle.pointed.proofs.read_pointed.Lts as lts
+use Rattle.pointed.proofs.read_pointed.Goals as goal
+
+abbrev After-known_told : Type 0
+After-known_told = lts.After-known_told tie.the-claims tie.handed_pre tie.handed_post
+
+abbrev After-known_told2 : Type 0
+After-known_told2 = lts.After-known_told2 tie.the-claims tie.handed_pre tie.handed_post
+
+abbrev Start : Type 0
+Start = lts.Start tie.the-claims tie.handed_pre tie.handed_post
 
 -- a number that was read is at most what was asked for
 decimal_low : (top n : ℕ) (s : List ℕ) → read_decimal top s ≡ Value n → n ≤ top
@@ -61,109 +71,53 @@ module _ (top : ℕ) (s : List ℕ) where
       let all : rest ≡ drop (length s - 2) s = take_all (length s - (length s - 2)) (drop (length s - 2) s) (simp length-drop (omega arith)) in
       no _ (le-ltb _ _ h) (rw (← e, ← f, all) (whole_to_top top (take (length s - 2) s) _))
 
-returns : tie.Need-returns
+pub returns-then-s-lt2 : goal.returns-then-s-lt2
 unfolding read_pointed
-returns c = yes _ (lt-ltb _ _ c.if1.true) refl
+returns-then-s-lt2 c = yes _ (lt-ltb _ _ c.if-s-lt2.true) refl
 
-sub-whole-width : tie.Need-overflow-sub-whole-width
-sub-whole-width c = search rules
+pub slice_bounds-read_decimal-end : goal.slice_bounds-read_decimal-end
+slice_bounds-read_decimal-end c = sym (length-take-le _ _ (omega arith))
 
-slice-aggregate-read-decimal : tie.Need-slice-aggregate-read-decimal
-slice-aggregate-read-decimal c = sym (length-take-le _ _ (omega arith))
-
-read-decimal-requires : tie.Need-read-decimal-requires
-read-decimal-requires c κs = search rules
-
-enum-known-whole : tie.Need-enum-known-whole
-enum-known-whole c = search rules
-
-enum_told : tie.Need-enum-told
-enum_told c = search rules
-
-returns-2 : tie.Need-returns-2
+pub returns-in_default : goal.returns-in_default
 unfolding with_tenths
-returns-2 c =
-    let w = c.before.before in
-    joins _ _ w.before.before.if1.false (sym w.read-decimal.ensures ∙ c.enum_told.given.1) refl
-
-sub-read-tagged : tie.Need-overflow-sub-read-tagged
-sub-read-tagged c = search rules
-
-part-read-tagged-start : tie.Need-slice-bounds-read-tagged-start
-part-read-tagged-start c = search rules
-
-part-read-tagged-end : tie.Need-slice-bounds-read-tagged-end
-part-read-tagged-end c = search rules
-
-read-tagged-requires : tie.Need-read-tagged-requires
-read-tagged-requires c κs = search rules
-
-enum-known-tenth : tie.Need-enum-known-tenth
-enum-known-tenth c = search rules
-
-enum-told-2 : tie.Need-enum-told-2
-enum-told-2 c = search rules
+returns-in_default c =
+    joins _ _ c.if-s-lt2.false (sym c.read_decimal.ensures ∙ c.in_default.is) refl
 
 -- the parts, as they were found
-abbrev start : tie.After-whole → tie.Start
-start c = c.before.before.before.before.before.before
+abbrev start : After-known_told → Start
+start c = c.before.before.before.before
 
-abbrev first : tie.After-tenth → tie.After-whole
-first c = c.before.before.before.before.before
+abbrev first : After-known_told2 → After-known_told
+first c = c.before.before.before
 
-gave_whole : (c : tie.After-whole) → whole (start c).args.top (start c).args.s.now ≡ Value c.whole.given.0.0
-gave_whole c = sym c.before.before.read-decimal.ensures ∙ c.whole.given.1
+gave_whole : (c : After-known_told) → whole (start c).args.top (start c).args.s.now ≡ Value c.in-Value.whole
+gave_whole c = sym c.read_decimal.ensures ∙ c.in-Value.is
 
-gave_tenth : (c : tie.After-tenth) → read_tagged point (read_decimal 9) (rest (start (first c)).args.top (start (first c)).args.s.now) ≡ Value c.tenth.given.0.0
-gave_tenth c = sym c.before.before.read-tagged.ensures ∙ c.tenth.given.1
+gave_tenth : (c : After-known_told2) → read_tagged point (read_decimal 9) (rest (start (first c)).args.top (start (first c)).args.s.now) ≡ Value c.in-Value-read_tagged.tenth
+gave_tenth c = sym c.read_tagged.ensures ∙ c.in-Value-read_tagged.is
 
-low : (c : tie.After-tenth) → ((first c).whole.given.0.0 ≤ (start (first c)).args.top) × (c.tenth.given.0.0 ≤ 9)
+low : (c : After-known_told2) → ((first c).whole.given.0.0 ≤ (start (first c)).args.top) × (c.in-Value-read_tagged.tenth ≤ 9)
 low c = (decimal_low _ _ _ (gave_whole (first c)), tagged_low _ _ _ _ (gave_tenth c))
 
-gave_both : (c : tie.After-tenth) →
-    with_tenths (start (first c)).args.top (Value (first c).whole.given.0.0) (Value c.tenth.given.0.0) ≡ read_pointed (start (first c)).args.top (start (first c)).args.s.now
+gave_both : (c : After-known_told2) →
+    with_tenths (start (first c)).args.top (Value (first c).whole.given.0.0) (Value c.in-Value-read_tagged.tenth) ≡ read_pointed (start (first c)).args.top (start (first c)).args.s.now
 gave_both c = joins _ _ (first c).before.before.before.before.if1.false (gave_whole (first c)) (gave_tenth c)
 
-returns-3 : tie.Need-returns-3
+pub returns-in_default-read_tagged : goal.returns-in_default-read_tagged
 unfolding with_tenths
-returns-3 c =
-    let t = c.before.before in
-    let w = t.before.before.before in
-    joins _ _ w.before.before.before.before.if1.false (gave_whole w) (sym t.read-tagged.ensures ∙ c.enum-told2.given.1)
+returns-in_default-read_tagged c =
+    joins _ _ c.if-s-lt2.false (gave_whole c.before.before.before.before) (sym c.read_tagged.ensures ∙ c.in_default-read_tagged.is)
 
-mul-n : tie.Need-overflow-mul-n
-mul-n c = omega (arith, low c.before)
+pub overflow_mul-n : goal.overflow_mul-n
+overflow_mul-n c = omega (arith, low c.before)
 
-add-n : tie.Need-overflow-add-n
-add-n c = omega (arith, low c.before)
+pub overflow_add-n : goal.overflow_add-n
+overflow_add-n c = omega (arith, low c.before)
 
-returns-4 : tie.Need-returns-4
+pub returns-then-most-n : goal.returns-then-most-n
 unfolding with_tenths
-returns-4 c = sym (cond_no _ _ (lt-leb _ _ c.if2.true)) ∙ gave_both c.before.before
+returns-then-most-n c = sym (cond_no _ _ (lt-leb _ _ c.if-most-n.true)) ∙ gave_both c.before.before
 
-returns-5 : tie.Need-returns-5
+pub returns : goal.returns
 unfolding with_tenths
-returns-5 c = sym (cond_yes _ _ (le-leb _ _ c.if2.false)) ∙ gave_both c.before.before
-
-pub read_pointed_spec : {M : Type 1} → statement M
-read_pointed_spec =
-    tie.close
-    (tie.spec
-    returns
-    sub-whole-width
-    slice-aggregate-read-decimal
-    read-decimal-requires
-    enum-known-whole
-    enum_told
-    returns-2
-    sub-read-tagged
-    part-read-tagged-start
-    part-read-tagged-end
-    read-tagged-requires
-    enum-known-tenth
-    enum-told-2
-    returns-3
-    mul-n
-    add-n
-    returns-4
-    returns-5)
+returns c = sym (cond_yes _ _ (le-leb _ _ c.if-most-n.false)) ∙ gave_both c.before.before

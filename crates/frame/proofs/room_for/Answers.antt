@@ -9,8 +9,7 @@ use Rattle.refusal.specs.declared.Refusal.TheVariants.{Room}
 use Rattle.frame.specs.Message.{room_for, wrote_of}
 use Rattle.frame.specs.declared.Wrote.TheVariants as wrote
 use Rattle.frame.proofs.Exactly.{ending_short}
-use Rattle.frame.proofs.room_for.Statement.{statement}
-use Rattle.frame.proofs.room_for.Tie as tie
+use Rattle.frame.proofs.room_for.Goals as goal
 
 module _ {n m len : ℕ} (e : n ≡ m) where
   short : len < n → wrote.Refused (Room n) ≡ wrote_of (room_for m len)
@@ -21,17 +20,11 @@ module _ {n m len : ℕ} (e : n ≡ m) where
   unfolding room_for unless
   fits h = rw (← e, le-leb n len h)
 
-ending-width-requires : tie.Need-ending-width-requires
-ending-width-requires c κs = search rules
+pub overflow_add-n : goal.overflow_add-n
+overflow_add-n c = omega (arith, c.ending_width.ensures, ending_short c.args.checksum)
 
-add-n : tie.Need-overflow-add-n
-add-n c = omega (arith, c.ending-width.ensures, ending_short c.before.args.checksum)
+pub returns-then-len-n : goal.returns-then-len-n
+returns-then-len-n c = short (rw c.ending_width.ensures) c.if-len-n.true
 
-returns : tie.Need-returns
-returns c = short (rw c.before.ending-width.ensures) c.if1.true
-
-returns-2 : tie.Need-returns-2
-returns-2 c = fits (rw c.before.ending-width.ensures) c.if1.false
-
-pub room_for_spec : {M : Type 1} → statement M
-room_for_spec = tie.close (tie.spec ending-width-requires add-n returns returns-2)
+pub returns : goal.returns
+returns c = fits (rw c.ending_width.ensures) c.if-len-n.false

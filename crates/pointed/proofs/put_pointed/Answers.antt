@@ -16,8 +16,12 @@ use Rattle.digits.specs.Digits.{digits, decimal}
 use Rattle.digits.proofs.Laws.{length_digits, digits_last}
 use Rattle.pointed.specs.Pointed.{point, pointed_text}
 use Rattle.pointed.proofs.Exact.{pointed_long}
-use Rattle.pointed.proofs.put_pointed.Statement.{statement}
 use Rattle.pointed.proofs.put_pointed.Tie as tie
+use Rattle.pointed.proofs.put_pointed.Lts as lts
+use Rattle.pointed.proofs.put_pointed.Goals as goal
+
+abbrev Else2 : Type 0
+Else2 = lts.Else2 tie.the-claims tie.handed_pre tie.handed_post
 
 -- the byte that a write ended with is read at its place
 last_written : (d s : List ℕ) (x a b : ℕ) → a + length s ≡ b → b < length d → get_or (over d a (s ++ (x ∷ []))) b 0 ≡ x
@@ -64,64 +68,30 @@ module _ (d : List ℕ) (at width n : ℕ) where
       onto_end d whole (tenth ∷ []) (point ∷ tenth ∷ []) at b e (q ∙ ap (λ (y : ℕ). over l1 b (point ∷ y ∷ [])) x) (omega arith) (omega arith) (omega arith)
       ∙ ap (λ (t : List ℕ). over d at (whole ++ (point ∷ t))) one_digit
 
-returns : tie.Need-returns
-returns c = short _ _ _ _ (omega arith)
+pub returns-then-out-lt2 : goal.returns-then-out-lt2
+returns-then-out-lt2 c = short _ _ _ _ (omega arith)
 
-sub-has-room : tie.Need-overflow-sub-has-room
-sub-has-room c = search rules
-
-has-room-requires : tie.Need-has-room-requires
-has-room-requires c κs = search rules
-
-returns-2 : tie.Need-returns-2
-returns-2 c = no_room _ _ _ _ (sym c.before.has_room.ensures ∙ not-true _ c.if2.true)
+pub returns-then-not-has_room : goal.returns-then-not-has_room
+returns-then-not-has_room c = no_room _ _ _ _ (sym c.has_room.ensures ∙ c.if-not-has_room.true)
 
 -- all of it fits
-room : (c : tie.Else2) → c.before.before.before.before.args.at + (c.before.before.before.before.args.width + 2) ≤ length c.before.before.before.before.args.out.now
+room : (c : Else2) → c.args.at + (c.args.width + 2) ≤ length c.args.out.now
 room c =
-    let a = c.before.before.before.before.args in
-    fits a.out.now a.at a.width a.n (omega arith) (sym c.before.has_room.ensures ∙ not-false _ c.if2.false)
+    let a = c.args in
+    fits a.out.now a.at a.width a.n (omega arith) (sym c.has_room.ensures ∙ c.if-not-has_room.false)
 
-add-put-decimal : tie.Need-overflow-add-put-decimal
-add-put-decimal c = omega (arith, room c.before)
+pub overflow_add-width : goal.overflow_add-width
+overflow_add-width c = omega (arith, room c.before)
 
-put-decimal-requires : tie.Need-put-decimal-requires
-put-decimal-requires c κs = search rules
+pub overflow_add-tenth : goal.overflow_add-tenth
+overflow_add-tenth c = omega (arith, room c.before.before.before.before.before)
 
-add-tenth : tie.Need-overflow-add-tenth
-add-tenth c = omega (arith, room c.before.before.before.before)
+pub bounds-out-at : goal.bounds-out-at
+bounds-out-at c = omega (arith, room c.before.before.before.before.before.before)
 
-slice-read-tenth : tie.Need-slice-read-tenth
-slice-read-tenth c = omega (arith, room c.before.before.before.before.before)
+pub overflow_add-at : goal.overflow_add-at
+overflow_add-at c = omega (arith, room c.before.before.before.before.before.before)
 
-add-put-pair : tie.Need-overflow-add-put-pair
-add-put-pair c = omega (arith, room c.before.before.before.before.before.before)
-
-put-pair-requires : tie.Need-put-pair-requires
-put-pair-requires c κs = search rules
-
-same_length : tie.Need-same-length
-same_length c = search rules
-
-returns-3 : tie.Need-returns-3
-returns-3 c =
-    let pair = c.before.before in
-    let written = pair.before.before.before.before.before in
-    digits_point _ _ _ _ (room written.before.before) written.put-decimal.ensures pair.put-pair.ensures
-
-pub put_pointed_spec : {M : Type 1} → statement M
-put_pointed_spec =
-    tie.close
-    (tie.spec
-    returns
-    sub-has-room
-    has-room-requires
-    returns-2
-    add-put-decimal
-    put-decimal-requires
-    add-tenth
-    slice-read-tenth
-    add-put-pair
-    put-pair-requires
-    same_length
-    returns-3)
+pub returns : goal.returns
+returns c =
+    digits_point _ _ _ _ (room c.before.before.before.before.before.before.before.before.before.before) c.put_decimal.ensures c.put_pair.ensures
