@@ -21,11 +21,11 @@ use Rattle.pointed.proofs.read_pointed.Tie as tie
 use Rattle.pointed.proofs.read_pointed.Lts as lts
 use Rattle.pointed.proofs.read_pointed.Goals as goal
 
-abbrev After-known_told : Type 0
-After-known_told = lts.After-known_told tie.the-claims tie.handed_pre tie.handed_post
+abbrev Past-After-known_told : Type 0
+Past-After-known_told = lts.Past-After-known_told tie.the-claims tie.handed_pre tie.handed_post
 
-abbrev After-known_told2 : Type 0
-After-known_told2 = lts.After-known_told2 tie.the-claims tie.handed_pre tie.handed_post
+abbrev Past-After-known_told2 : Type 0
+Past-After-known_told2 = lts.Past-After-known_told2 tie.the-claims tie.handed_pre tie.handed_post
 
 abbrev Start : Type 0
 Start = lts.Start tie.the-claims tie.handed_pre tie.handed_post
@@ -84,24 +84,24 @@ returns-in_default c =
     joins _ _ c.if-s-lt2.false (sym c.read_decimal.ensures ∙ c.in_default.is) refl
 
 -- the parts, as they were found
-abbrev start : After-known_told → Start
+abbrev start : Past-After-known_told → Start
 start c = c.before.before.before.before
 
-abbrev first : After-known_told2 → After-known_told
+abbrev first : Past-After-known_told2 → Past-After-known_told
 first c = c.before.before.before
 
-gave_whole : (c : After-known_told) → whole (start c).args.top (start c).args.s.now ≡ Value c.in-Value.whole
+gave_whole : (c : Past-After-known_told) → whole (start c).args.top (start c).args.s.now ≡ Value c.in-Value.whole
 gave_whole c = sym c.read_decimal.ensures ∙ c.in-Value.is
 
-gave_tenth : (c : After-known_told2) → read_tagged point (read_decimal 9) (rest (start (first c)).args.top (start (first c)).args.s.now) ≡ Value c.in-Value-read_tagged.tenth
+gave_tenth : (c : Past-After-known_told2) → read_tagged point (read_decimal 9) (rest (start (first c)).args.top (start (first c)).args.s.now) ≡ Value c.in-Value-read_tagged.tenth
 gave_tenth c = sym c.read_tagged.ensures ∙ c.in-Value-read_tagged.is
 
-low : (c : After-known_told2) → ((first c).whole.given.0.0 ≤ (start (first c)).args.top) × (c.in-Value-read_tagged.tenth ≤ 9)
+low : (c : Past-After-known_told2) → ((first c).in-Value.whole ≤ (start (first c)).args.top) × (c.in-Value-read_tagged.tenth ≤ 9)
 low c = (decimal_low _ _ _ (gave_whole (first c)), tagged_low _ _ _ _ (gave_tenth c))
 
-gave_both : (c : After-known_told2) →
-    with_tenths (start (first c)).args.top (Value (first c).whole.given.0.0) (Value c.in-Value-read_tagged.tenth) ≡ read_pointed (start (first c)).args.top (start (first c)).args.s.now
-gave_both c = joins _ _ (first c).before.before.before.before.if1.false (gave_whole (first c)) (gave_tenth c)
+gave_both : (c : Past-After-known_told2) →
+    with_tenths (start (first c)).args.top (Value (first c).in-Value.whole) (Value c.in-Value-read_tagged.tenth) ≡ read_pointed (start (first c)).args.top (start (first c)).args.s.now
+gave_both c = joins _ _ (first c).if-s-lt2.false (gave_whole (first c)) (gave_tenth c)
 
 pub returns-in_default-read_tagged : goal.returns-in_default-read_tagged
 unfolding with_tenths
