@@ -51,7 +51,7 @@ accepted_part m checksum f r e p =
 pub refused_part : RefusedPart
 refused_part m checksum x r e p =
     let q : PartBy m (refused x) r = part_by m (sym e) p in
-    (q.place ∙ ap (λ (o : ℕ). (m.ptr.0, o)) (zero-add m.ptr.1), q.bytes)
+    (q.place ∙ ap (λ (o : ℕ). (m.ref_ptr.0, o)) (zero-add m.ref_ptr.1), q.bytes)
 
 -- one byte more: a space is left out, and any other byte ends the part
 step_space : (s : List ℕ) (n : ℕ) → eqb (get_or s n 0) 32 ≡ true → unspaced s (suc n) ≡ unspaced s n

@@ -1,0 +1,22 @@
+use Prim.Native.Nat.{ℕ, ◌+◌, ◌-◌, ◌≤◌, ◌<◌}
+use mathlib.Core.List.{List}
+use mathlib.Core.Logic.{⊎_elim}
+use mathlib.Core.Path.{◌≡◌, refl, sym, ap, ◌∙◌}
+use native.Mathlib.Omega.{arith}
+use borrow.Author.Rules.{rules}
+use lib.ListN.{length, get_or, drop, set, length-set}
+use Rattle.cutter.specs.Cutter.{cutter_length, zeros, too_many, held_from}
+use Rattle.cutter.specs.declared.Cutter.{Cutter}
+use Rattle.cutter.proofs.Laws.{held_room, held_none, held_many}
+use Rattle.cutter.proofs.Cutter.held.Given as goal
+
+abbrev pub kept : List ℕ → ℕ → Cutter
+kept s n = record { bytes = s; len = n }
+
+abbrev pub invariant-loop-i : goal.invariant-loop-i
+invariant-loop-i l =
+    (l.i ≤ l.n) × (l.n ≡ length l.part) × (l.at + l.n ≤ cutter_length) × (length l.bytes ≡ cutter_length)
+    × (held_from (kept l.initial.bytes l.at) l.part ≡ held_from (kept l.bytes (l.at + l.i)) (drop l.i l.part))
+
+abbrev pub decreases-loop-i : goal.decreases-loop-i
+decreases-loop-i l = l.n - l.i

@@ -1,0 +1,6 @@
+-- `record::refused_record` meets its contract: its contents are those of `no_record`. Assumes nothing.
+use borrow.Author.Rules.{rules}
+use Rattle.record.proofs.refused_record.Goals as goal
+
+pub returns : goal.returns
+returns c = rw c.no_record.ensures
