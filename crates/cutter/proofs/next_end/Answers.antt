@@ -31,8 +31,8 @@ loop-i-preserved c =
     let b = get_or s l.i 0 in
     let lf = lf_before a.lf s l.i in
     let e : (eqb b 13 && lf) ≡ false = ⊎_elim {C = (eqb b 13 && lf) ≡ false}
-    (λ w. sym (and_fails_by (eqb b 13) (sym w.1.ensures ∙ w.2.left)))
-    (λ w. sym (and_fails lf (ne_eqb _ _ w.left)))
+    (λ w. sym (and_fails_by (eqb b 13) (sym w.is_lf_before.ensures ∙ w.if-is_lf_before.false)))
+    (λ w. sym (and_fails lf (ne_eqb _ _ w.if-stream-i-eq13.false)))
     c.if-stream-i-eq13.branch-raw in (
       omega arith,
       l.invariant.1

@@ -43,11 +43,11 @@ returns-in_default c =
 pub overflow_add-e : goal.overflow_add-e
 overflow_add-e c = omega (arith, fits c.before)
 
-pub slice_bounds-result-end : goal.slice_bounds-result-end
-slice_bounds-result-end c = omega (arith, fits c.before)
-
 pub returns : goal.returns
 returns c =
     let m = c.args.m in
     let k = add-sub_cancel_left 12 c.trimmed_length-e.result ∙ c.trimmed_length-e.ensures in
     part_by m (took c.before.before.before.before.before.before) (record { place = refl; bytes = ap (λ (j : ℕ). take j (drop 12 m.now)) k })
+
+pub slice_bounds-result-end-2 : goal.slice_bounds-result-end-2
+slice_bounds-result-end-2 c = omega (arith, fits c.before)
