@@ -12,8 +12,7 @@ use Rattle.refusal.specs.declared.Refusal.TheVariants.{Field}
 use Rattle.units.specs.Units.{is_unit, number_in, in_range, conversion, converted_of}
 use Rattle.units.specs.declared.Converted.{Converted}
 use Rattle.units.specs.declared.Converted.TheVariants.{Refused}
-use Rattle.units.proofs.convert.Statement.{statement}
-use Rattle.units.proofs.convert.Tie as tie
+use Rattle.units.proofs.convert.Goals as goal
 
 wrong : (i : ℕ) (z : ℤ) (unit wanted : ℕ) → false ≡ (is_unit unit && is_unit wanted) → Refused (Field 0) ≡ converted_of (conversion i z unit wanted)
 unfolding conversion unless
@@ -25,34 +24,18 @@ right : (i : ℕ) {y z : ℤ} (u : ℕ) {unit : ℕ} (wanted : ℕ) {r : Convert
 unfolding conversion unless
 right i u wanted own p e q h = h ∙ rw (own, e, p, q)
 
-is-unit-requires : tie.Need-is-unit-requires
-is-unit-requires c κs = search rules
+pub returns-then-not-is_unit : goal.returns-then-not-is_unit
+returns-then-not-is_unit c = wrong _ _ _ _ (and_fails_by (is_unit c.args.unit) (sym c.is_unit.ensures ∙ c.if-not-is_unit.true))
 
-returns : tie.Need-returns
-returns c = wrong _ _ _ _ (and_fails_by (is_unit c.before.before.args.unit) (sym c.before.is-unit.ensures ∙ not-true _ c.if1.true))
+pub returns-in-73 : goal.returns-in-73
+returns-in-73 c =
+    right _ 73 _ (to_z-of_z c.ranges.number) refl c.in-73.is (sym c.is_unit.ensures ∙ c.if-not-is_unit.false) c.convert_from.ensures
 
-convert-from-requires : tie.Need-convert-from-requires
-convert-from-requires c κs = search rules
+pub returns-in-77 : goal.returns-in-77
+returns-in-77 c =
+    right _ 77 _ (to_z-of_z c.ranges.number) refl c.in-77.is (sym c.is_unit.ensures ∙ c.if-not-is_unit.false) c.convert_from-in-77.ensures
 
-convert-from-requires-2 : tie.Need-convert-from-requires-2
-convert-from-requires-2 c κs = search rules
-
-returns-2 : tie.Need-returns-2
-returns-2 c =
-    let m = c.before in
-    let g = m.before in
-    right _ 73 _ (to_z-of_z g.before.before.ranges.number) refl m.match.keys1 (sym g.before.is-unit.ensures ∙ not-false _ g.if1.false) c.convert-from.ensures
-
-returns-3 : tie.Need-returns-3
-returns-3 c =
-    let m = c.before in
-    let g = m.before in
-    right _ 77 _ (to_z-of_z g.before.before.ranges.number) refl m.match.keys2 (sym g.before.is-unit.ensures ∙ not-false _ g.if1.false) c.convert-from2.ensures
-
-returns-4 : tie.Need-returns-4
-returns-4 c =
-    let r = c.match.rest in
+pub returns-in_default : goal.returns-in_default
+returns-in_default c =
+    let r = c.in_default.in_default-own.rest in
     wrong _ _ _ _ (and_fails _ (λ i. ne_eqb _ _ r.0.1 i || ne_eqb _ _ r.1 i))
-
-pub convert_spec : {M : Type 1} → statement M
-convert_spec = tie.close (tie.spec is-unit-requires returns convert-from-requires convert-from-requires-2 returns-2 returns-3 returns-4)
