@@ -27,6 +27,5 @@ returns-in-Wrong-back c =
 pub returns-in-Found-back : goal.returns-in-Found-back
 unfolding mapped both four_says three_says eleven_says
 returns-in-Found-back c =
-    let b = c.back-in-Found-middle-1.in-Found-back-own.given in
-    let same : to_z w32 (of_z w32 b.0.1.0) ≡ b.0.1.0 = to_z-of_z {w = mir.Syntax.w32} (search rules) in
-    rw (c.in-Found.is, c.in-Found-middle.is, b.1 ∙ ap (λ (e : ℤ). Found b.0.0 e b.0.1.1.0) (sym same))
+    let same : to_z w32 (of_z w32 c.in-Found-back.pupil) ≡ c.in-Found-back.pupil = to_z-of_z {w = mir.Syntax.w32} (search rules) in
+    rw (c.in-Found.is, c.in-Found-middle.is, c.in-Found-back.is ∙ ap (λ (e : ℤ). Found c.in-Found-back.view e c.in-Found-back.zoom) (sym same))
