@@ -66,19 +66,19 @@ unfolding valid_source valid_modes settings_lowest fixed_lowest lens_lowest text
 bench_good = record { valid = refl; ready_off = λ e. refl }
 
 -- a run sends at most a byte an event
-one_byte : {r : Rules} (o : Out r) → length (sent_in o) ≤ 1
-one_byte grew = omega arith
-one_byte (took c) = omega arith
-one_byte dropped = omega arith
-one_byte noted = omega arith
-one_byte (sends b) = omega arith
-one_byte (begins a k b bs) = omega arith
-one_byte (idles a) = omega arith
+one_byte_lem : {r : Rules} (o : Out r) → length (sent_in o) ≤ 1
+one_byte_lem grew = omega arith
+one_byte_lem (took c) = omega arith
+one_byte_lem dropped = omega arith
+one_byte_lem noted = omega arith
+one_byte_lem (sends b) = omega arith
+one_byte_lem (begins a k b bs) = omega arith
+one_byte_lem (idles a) = omega arith
 
 sent_at_most : {r : Rules} (s : State r) (es : Events r) → length (sent s es) ≤ length es
 sent_at_most s [] = omega arith
 sent_at_most s (e ∷ es) =
-    omega (arith, length-append (sent_in (shows s e)) (sent (next s e) es), one_byte (shows s e), sent_at_most (next s e) es)
+    omega (arith, length-append (sent_in (shows s e)) (sent (next s e) es), one_byte_lem (shows s e), sent_at_most (next s e) es)
 
 -- no slot before the last that is promised acts
 not_early : (m n k : ℕ) → m ≤ act_by - 1 → Promised lens m n k bench → ⊥

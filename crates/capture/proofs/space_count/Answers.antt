@@ -19,8 +19,8 @@ counted c =
     let l = c.loop-i in
     let s = c.args.line.now in
     ⊎_elim {C = (c.if-line-i-eq32.count ≤ l.count + 1) × (c.if-line-i-eq32.count + spaces (drop (suc l.i) s) ≡ l.count + spaces (drop l.i s))}
-    (λ w. let e = spaces_here s l.i c.loop-i-test.true w.0.taken in (omega arith, omega arith))
-    (λ w. let e = spaces_later s l.i c.loop-i-test.true w.0.left in (omega arith, omega arith))
+    (λ w. let e = spaces_here s l.i c.loop-i-test.true w.if-line-i-eq32.true in (omega arith, omega arith))
+    (λ w. let e = spaces_later s l.i c.loop-i-test.true w.if-line-i-eq32.false in (omega arith, omega arith))
     c.if-line-i-eq32.branch-raw
 
 pub loop-i-init : goal.loop-i-init
