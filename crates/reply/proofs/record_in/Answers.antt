@@ -1,0 +1,40 @@
+-- `reply::record_in` meets its contract: an arm for each form. Assumes nothing.
+use mathlib.Core.Path.{ap, ◌∙◌}
+use Rattle.laws.proofs.Tests.{at}
+use Rattle.frame.specs.Frame.{framed}
+use Rattle.record.specs.Forms.{text_form, packed_form}
+use Rattle.record.specs.declared.Record.{Record}
+use Rattle.state.specs.declared.Message.{Message}
+use Rattle.state.specs.declared.Sending.{Sending}
+use Rattle.state.specs.declared.Source.{Source}
+use Rattle.state.specs.State.{unsent}
+use Rattle.rules.specs.Does.{record_is}
+use borrow.Author.Rules.{rules}
+use Rattle.reply.proofs.record_in.Goals as goal
+
+abbrev built : Source → Sending → Message
+built s k = unsent (framed s.modes.checksum (record_is k s))
+
+abbrev text : Source → Record → Message
+text s r = unsent (framed s.modes.checksum (text_form.print r))
+
+abbrev packed : Source → Record → Message
+packed s r = unsent (framed s.modes.checksum (packed_form.print r))
+
+pub returns-in-Off : goal.returns-in-Off
+unfolding record_is
+returns-in-Off c =
+    let s = c.args.source in
+    at (built s) c.in-Off.is (c.text_message.ensures ∙ ap (text s) c.record_now-record.ensures)
+
+pub returns-in-Text : goal.returns-in-Text
+unfolding record_is
+returns-in-Text c =
+    let s = c.args.source in
+    at (built s) c.in-Text.is (c.text_message-in-Text.ensures ∙ ap (text s) c.record_now-record.ensures)
+
+pub returns-in-Packed : goal.returns-in-Packed
+unfolding record_is
+returns-in-Packed c =
+    let s = c.args.source in
+    at (built s) c.in-Packed.is (c.packed_message.ensures ∙ ap (packed s) c.record_now-record.ensures)
