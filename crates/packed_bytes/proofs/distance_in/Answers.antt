@@ -1,0 +1,23 @@
+-- `packed_bytes::distance_in` meets its contract: the laws of the two masks. Assumes nothing.
+use Prim.Native.Nat.{◌/◌}
+use native.Mathlib.Omega.{arith}
+use lib.Bits.{and_le_r}
+use Rattle.packed_bytes.proofs.Lanes.{pairs_say}
+use borrow.Author.Rules.{rules}
+use Rattle.packed_bytes.proofs.distance_in.Goals as goal
+
+pub overflow_mul-pairs : goal.overflow_mul-pairs
+overflow_mul-pairs c = omega (arith, and_le_r c.four_in-x.result 4128831, and_le_r (c.four_in-x.result / 256) 4128831)
+
+pub overflow_add-pairs : goal.overflow_add-pairs
+overflow_add-pairs c = omega (arith, and_le_r c.four_in-x.result 4128831, and_le_r (c.four_in-x.result / 256) 4128831)
+
+pub overflow_add-result : goal.overflow_add-result
+overflow_add-result c = omega (arith, and_le_r c.four_in-x.result 4128831, and_le_r (c.four_in-x.result / 256) 4128831)
+
+pub overflow_cast-result : goal.overflow_cast-result
+overflow_cast-result c = omega (arith, and_le_r c.four_in-x.result 4128831, and_le_r (c.four_in-x.result / 256) 4128831)
+
+pub returns : goal.returns
+returns c =
+    pairs_say c.args.s.now c.requires (λ i. omega (arith, c.type_inv.s i)) c.four_in-x.result c.four_in-x.ensures.0
