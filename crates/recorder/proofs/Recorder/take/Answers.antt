@@ -13,8 +13,12 @@ use Rattle.recorder.specs.Recorder.{told_as, cut_on, take_of, reading_in}
 use Rattle.recorder.specs.declared.Recorder.{Recorder}
 use Rattle.recorder.specs.declared.Made.{Made}
 use Rattle.recorder.proofs.Takes.{opens_done, take_none, take_some}
-use Rattle.recorder.proofs.Recorder.take.Statement.{statement}
 use Rattle.recorder.proofs.Recorder.take.Tie as tie
+use Rattle.recorder.proofs.Recorder.take.Lts as lts
+use Rattle.recorder.proofs.Recorder.take.Goals as goal
+
+abbrev Start : Type 0
+Start = lts.Start tie.the-claims tie.handed_pre tie.handed_post
 
 -- the message that was made, what was found of its verdict, and a fresh cutter
 taken : (r : Recorder) (p : List ℕ) (e : ℕ) (m : Made) (d : Bool) (c : Cutter) →
@@ -29,65 +33,19 @@ taken r p e m d c long z h f g k =
     let o = v ∙ sym (opens_done r.setup r.opened (held_message (held_from r.cutter (take e p)))) in
     (λ i. record { made = f2 i; used = e; ended = true; recorder = cut_on r (k i) (o i) }) ∙ sym (take_some r p long e z h).1
 
-long_of : (s : tie.Start) → length s.args.self.cutter.bytes ≡ cutter_length
+long_of : (s : Start) → length s.args.self.cutter.bytes ≡ cutter_length
 long_of s = search rules
 
-end-in-requires : tie.Need-end-in-requires
-end-in-requires c κs = search rules
+pub returns-then-n-eq0 : goal.returns-then-n-eq0
+returns-then-n-eq0 c =
+    c.hold.ensures ∙ sym (take_none c.args.self c.args.piece.now (long_of c.before.before.before.before.before.before) (sym c.end_in-n.ensures ∙ c.if-n-eq0.true))
 
-hold-requires : tie.Need-hold-requires
-hold-requires c κs = search rules
-
-returns : tie.Need-returns
-returns c =
-    let i = c.before in
-    let n = i.before in
-    let s = n.before.before.before in
-    c.hold.ensures ∙ sym (take_none s.args.self s.args.piece.now (long_of s) (sym n.end-in.ensures ∙ i.if1.true))
-
-sub-make : tie.Need-overflow-sub-make
-sub-make c = search rules
-
-part-make-start : tie.Need-slice-bounds-make-start
-part-make-start c = search rules
-
-part-make-end : tie.Need-slice-bounds-make-end
-part-make-end c =
-    let n = c.before in
-    let s = n.before.before.before in
-    let h = (take_some s.args.self s.args.piece.now (long_of s) n.end-in.result (sym n.end-in.ensures) c.if1.false).0 in
+pub slice_bounds-make-end : goal.slice_bounds-make-end
+slice_bounds-make-end c =
+    let h = (take_some c.args.self c.args.piece.now (long_of c.before.before.before.before.before) c.end_in-n.result (sym c.end_in-n.ensures) c.if-n-eq0.false).0 in
     search rules
 
-make-requires : tie.Need-make-requires
-make-requires c κs = search rules
-
-is-done-requires : tie.Need-is-done-requires
-is-done-requires c κs = search rules
-
-fresh-requires : tie.Need-fresh-requires
-fresh-requires c κs = search rules
-
-returns-2 : tie.Need-returns-2
-returns-2 c =
-    let d = c.before.before in
-    let m = d.before.before in
-    let i = m.before.before in
-    let n = i.before in
-    let s = n.before.before.before in
-    taken s.args.self s.args.piece.now _ _ _ _ (long_of s)
-    (sym n.end-in.ensures) i.if1.false m.make.ensures d.is-done.ensures c.fresh.ensures
-
-pub take_spec : {M : Type 1} → statement M
-take_spec =
-    tie.close
-    (tie.spec
-    end-in-requires
-    hold-requires
-    returns
-    sub-make
-    part-make-start
-    part-make-end
-    make-requires
-    is-done-requires
-    fresh-requires
-    returns-2)
+pub returns : goal.returns
+returns c =
+    taken c.args.self c.args.piece.now _ _ _ _ (long_of c.before.before.before.before.before.before.before.before.before.before.before)
+    (sym c.end_in-n.ensures) c.if-n-eq0.false c.make-made.ensures c.is_done.ensures c.fresh.ensures

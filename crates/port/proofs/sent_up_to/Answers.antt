@@ -6,8 +6,7 @@ use Rattle.laws.proofs.Tests.{yes, no}
 use Rattle.state.specs.declared.Source.{Source}
 use Rattle.port.specs.declared.Port.{Port}
 use Rattle.port.specs.Port.{moved_if}
-use Rattle.port.proofs.sent_up_to.Statement.{statement}
-use Rattle.port.proofs.sent_up_to.Tie as tie
+use Rattle.port.proofs.sent_up_to.Goals as goal
 
 -- the message at a place, beside a source
 abbrev placed : Port → ℕ → Source → Port
@@ -18,18 +17,14 @@ placed p at s = record {
   waiting = p.waiting;
 }
 
-returns : tie.Need-returns
+pub returns-then-at-p : goal.returns-then-at-p
 unfolding moved_if
-returns c =
-    let t = c.before in
-    let a = t.before.before.before.args in
-    ap (placed a.p a.at) (yes _ (eq-eqb _ _ t.if1.true) refl)
+returns-then-at-p c =
+    let a = c.args in
+    ap (placed a.p a.at) (yes _ (eq-eqb _ _ c.if-at-p.true) refl)
 
-returns-2 : tie.Need-returns-2
+pub returns-else-at-p : goal.returns-else-at-p
 unfolding moved_if
-returns-2 c =
-    let a = c.before.before.before.args in
-    ap (placed a.p a.at) (no _ (ne_eqb _ _ c.if1.false) refl)
-
-pub sent_up_to_spec : {M : Type 1} → statement M
-sent_up_to_spec = tie.close (tie.spec returns returns-2)
+returns-else-at-p c =
+    let a = c.args in
+    ap (placed a.p a.at) (no _ (ne_eqb _ _ c.if-at-p.false) refl)

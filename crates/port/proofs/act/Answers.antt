@@ -15,8 +15,7 @@ use Rattle.port.specs.declared.Port.{Port}
 use Rattle.port.specs.declared.Slotted.{Slotted}
 use Rattle.port.specs.Port.{nobody, freed, begun_with, reply_last, rest_of, answers, act_of}
 use borrow.Author.Rules.{rules}
-use Rattle.port.proofs.act.Statement.{statement}
-use Rattle.port.proofs.act.Tie as tie
+use Rattle.port.proofs.act.Goals as goal
 
 -- no reply: the rest, with the waiting place free
 none : (p : Port) (s : Source) (xs : List ℕ) (k : Last) → length xs ≡ 0 → answers p s xs k ≡ rest_of (freed p s)
@@ -50,54 +49,11 @@ module _ (p : Port) (a : Acted) (e : a ≡ acted_of (does p.source p.waiting.lin
       ∙ (λ i. begun_with (e i).source (e i).message (g i) (f i))
       ∙ sym (some p d.source d.reply _ (λ z. n (ap (λ (x : Acted). x.message.len) e ∙ z)))
 
-act-requires : tie.Need-act-requires
-act-requires c κs = search rules
+pub returns-then-message-eq0 : goal.returns-then-message-eq0
+returns-then-message-eq0 c =
+    silent c.args.p c.act-acted.result c.act-acted.ensures c.if-message-eq0.true c.nobody_waits-nobody.ensures c.rest.ensures
 
-nobody-waits-requires : tie.Need-nobody-waits-requires
-nobody-waits-requires c κs = search rules
-
-rest-requires : tie.Need-rest-requires
-rest-requires c κs = search rules
-
-returns : tie.Need-returns
+pub returns : goal.returns
 returns c =
-    let w = c.before in
-    let t = w.before in
-    let a = t.before.before.before.before in
-    silent a.before.before.before.before.args.p a.act.result a.act.ensures t.if1.true w.nobody-waits.ensures c.rest.ensures
-
-counts-requires : tie.Need-counts-requires
-counts-requires c κs = search rules
-
-reply-last-requires : tie.Need-reply-last-requires
-reply-last-requires c κs = search rules
-
-nobody-waits-requires-2 : tie.Need-nobody-waits-requires-2
-nobody-waits-requires-2 c κs = search rules
-
-begin-requires : tie.Need-begin-requires
-begin-requires c κs = search rules
-
-returns-2 : tie.Need-returns-2
-returns-2 c =
-    let w = c.before in
-    let k = w.before in
-    let n = k.before in
-    let t = n.before in
-    let a = t.before.before.before.before in
-    spoken a.before.before.before.before.args.p a.act.result a.act.ensures t.if1.false w.nobody-waits2.ensures
-    (k.reply-last.ensures ∙ ap reply_last n.counts.ensures) c.begin.ensures
-
-pub act_spec : {M : Type 1} → statement M
-act_spec =
-    tie.close
-    (tie.spec
-    act-requires
-    nobody-waits-requires
-    rest-requires
-    returns
-    counts-requires
-    reply-last-requires
-    nobody-waits-requires-2
-    begin-requires
-    returns-2)
+    spoken c.args.p c.act-acted.result c.act-acted.ensures c.if-message-eq0.false c.nobody_waits.ensures
+    (c.reply_last.ensures ∙ ap reply_last c.counts.ensures) c.begin.ensures

@@ -1,0 +1,13 @@
+-- `recorder::Recorder::read_record` meets its contract: the form is the one that the settings name. Assumes nothing.
+use mathlib.Core.Path.{sym, ◌∙◌}
+use borrow.Author.Rules.{rules}
+use Rattle.recorder.specs.Recorder.{record_ending}
+use Rattle.recorder.proofs.Recorder.read_record.Goals as goal
+
+pub returns-then-setup : goal.returns-then-setup
+unfolding record_ending
+returns-then-setup c = c.read_packed.ensures ∙ sym (rw c.if-setup.true)
+
+pub returns : goal.returns
+unfolding record_ending
+returns c = c.read_text.ensures ∙ sym (rw c.if-setup.false)
