@@ -2,15 +2,16 @@
 -- shown of its events. Assumes nothing.
 use Prim.Native.Nat.{ℕ, suc, ◌+◌, ◌-◌, ◌≤◌, ◌<◌}
 use native.Mathlib.Omega.{arith}
-use mathlib.Core.Path.{◌≡◌, sym, ap, ◌∙◌}
+use mathlib.Core.Path.{◌≡◌, refl, sym, ap, ◌∙◌}
 use mathlib.Core.Logic.{◌≢◌}
-use mathlib.Core.Option.{some}
+use mathlib.Core.Option.{Option, none, some}
 use mathlib.Core.List.{List, [], ◌∷◌, ◌++◌, append-nil, append_assoc}
 use lib.ListN.{length}
-use Rattle.machine.specs.Machine.{Rules, neither, a_record, a-reply, Event, slot, slots, Events, listed, State, port, modes, waiting, underway, next, shows, run, start, taken_in, acted_in, taken, acted}
-use Rattle.machine.specs.Promised.{Sizes, ActedBy, RepliedBy, RecordBy, StaysOn, Theorem}
-use Rattle.machine.proofs.Slot.{slotted, starts_by_rules, idle_for}
-use Rattle.machine.proofs.Step.{stepped, takes, drops, drops_only, queue, taken_waits, reply_starts}
+use Rattle.laws.proofs.Tests.{never}
+use Rattle.machine.specs.Machine.{Rules, Kind, neither, a_record, a-reply, Event, slot, slots, Events, listed, State, Out, took, begins, rules, on_slot, port, modes, waiting, underway, next, shows, run, start, taken_in, acted_in, taken, acted}
+use Rattle.machine.specs.Promised.{Sizes, ByRules, ActedBy, RepliedBy, RecordBy, StaysOn, Theorem}
+use Rattle.machine.proofs.Slot.{slotted, given_starts, idle_for}
+use Rattle.machine.proofs.Step.{Stepped, stepped, takes, drops, drops_only, queue, reply_starts}
 use Rattle.machine.proofs.Counts.{ahead, gap, Kept, next_kept, run_kept, reached}
 use Rattle.machine.proofs.InTime.{slots_cons, act_soon, record_soon}
 use Rattle.machine.proofs.Bytes.{send_all, whole_sent}
@@ -18,6 +19,27 @@ use Rattle.machine.proofs.Bytes.{send_all, whole_sent}
 pub slots_append : {X : Type 0} (es es' : List (Event X)) → slots (es ++ es') ≡ slots es + slots es'
 slots_append [] es' = omega arith
 slots_append (e ∷ es) es' = omega (arith, slots_cons e (es ++ es'), slots_cons e es, slots_append es es')
+
+-- a command that waits after one more was taken is that one: the waiting place has room for one
+one_waits : {C : Type 0} (w w' : Option C) (c : C) → listed w ++ (c ∷ []) ≡ listed w' → w' ≡ some c
+one_waits none none c e = absurd (omega (arith, ap length e))
+one_waits none (some c') c e = cc
+one_waits (some d) none c e = absurd (omega (arith, ap length e))
+one_waits (some d) (some c') c e = absurd (omega (arith, ap length e))
+
+module _ {r : Rules} where
+  open r use {Command, Given}
+
+  pub taken_waits : {s s' : State r} {e : Event Given} {o : Out r} (c : Command) → Stepped s e s' o → o ≡ took c → waiting s' ≡ some c
+  taken_waits {s} {s'} c h t = one_waits (waiting s) (waiting s') c (rw t at (queue h))
+
+  -- a message that starts is the one that the rules give
+  pub starts_by_rules : (s : State r) (a : Option Command) (k : Kind) (b : ℕ) (bs : List ℕ) → shows s slot ≡ begins a k b bs → ByRules s a k (b ∷ bs)
+  unfolding on_slot
+  starts_by_rules (port m w (b' ∷ bs') before l) a k b bs e = never (cc)
+  starts_by_rules (port m w [] before l) a k b bs e =
+      let v = given_starts (rules r m w before) before l a k b bs e in
+      record { none_underway = refl; new_modes = v.0; still_waits = v.1; chosen = v.2 }
 
 module _ {r : Rules} {Good : r.Modes → Type 0} {W L R : ℕ} (fits : Sizes r Good W L R) where
   open r use {Command, reply_to}

@@ -9,7 +9,7 @@ use mathlib.Core.List.{List, [], ◌∷◌}
 use lib.ListN.{length}
 use Rattle.laws.proofs.Tests.{never}
 use Rattle.machine.specs.Machine.{Rules, Kind, neither, a_record, reply_kind, State, port, modes, Out, begins, sends, idles, Choice, choice, owed, rules, rule2, answer, rule3, sent_one, begin, on_slot, next, shows, slot}
-use Rattle.machine.specs.Promised.{Sizes, ByRules, IdleFor}
+use Rattle.machine.specs.Promised.{Sizes, IdleFor}
 
 module _ (r : Rules) where
   open r use {Modes, Command, act, reply_to}
@@ -95,18 +95,11 @@ module _ {r : Rules} where
   slot_is (rests {w = some c} n q off) = rw (n, q, off)
 
   -- a message that starts is the one that the rules give
-  given_starts : (ch : Choice r) (before : Kind) (l : Line) (a : Option Command) (k : Kind) (b : ℕ) (bs : List ℕ) → (begin ch before l).1 ≡ begins a k b bs
+  pub given_starts : (ch : Choice r) (before : Kind) (l : Line) (a : Option Command) (k : Kind) (b : ℕ) (bs : List ℕ) → (begin ch before l).1 ≡ begins a k b bs
       → (m : Modes) × (w : Option Command) × (ch ≡ choice a m w k (b ∷ bs))
   unfolding begin
   given_starts (choice a' m w k' []) before l a k b bs e = never (cc)
   given_starts (choice a' m w k' (b' ∷ bs')) before l a k b bs e = (m, w, cc)
-
-  pub starts_by_rules : (s : State r) (a : Option Command) (k : Kind) (b : ℕ) (bs : List ℕ) → shows s slot ≡ begins a k b bs → ByRules s a k (b ∷ bs)
-  unfolding on_slot
-  starts_by_rules (port m w (b' ∷ bs') before l) a k b bs e = never (cc)
-  starts_by_rules (port m w [] before l) a k b bs e =
-      let v = given_starts (rules r m w before) before l a k b bs e in
-      record { none_underway = refl; new_modes = v.0; still_waits = v.1; chosen = v.2 }
 
   -- an idle slot has nothing to send
   pub idle_for : {s s' : State r} {o : Out r} (a : Option Command) → Slotted s s' o → o ≡ idles a → IdleFor s s'

@@ -13,13 +13,6 @@ use Rattle.machine.specs.Machine.{Rules, Kind, Event, received, slot, given, slo
 use Rattle.machine.specs.Promised.{Sizes}
 use Rattle.machine.proofs.Slot.{Slotted, goes, owes, answers, flows, rests, slotted, slot_is}
 
--- a command that waits after one more was taken is that one: the waiting place has room for one
-one_waits : {C : Type 0} (w w' : Option C) (c : C) → listed w ++ (c ∷ []) ≡ listed w' → w' ≡ some c
-one_waits none none c e = absurd (omega (arith, ap length e))
-one_waits none (some c') c e = cc
-one_waits (some d) none c e = absurd (omega (arith, ap length e))
-one_waits (some d) (some c') c e = absurd (omega (arith, ap length e))
-
 module _ {r : Rules} where
   open r use {Modes, Line, Command, Given, blank, join, ends, read, reply_to, update}
 
@@ -102,9 +95,6 @@ module _ {r : Rules} where
   queue (dropping b) = refl
   queue (growing b) = append-nil _
   queue noting = append-nil _
-
-  pub taken_waits : {s s' : State r} {e : Event Given} {o : Out r} (c : Command) → Stepped s e s' o → o ≡ took c → waiting s' ≡ some c
-  taken_waits {s} {s'} c h t = one_waits (waiting s) (waiting s') c (rw t at (queue h))
 
   -- the bytes: none, or the next of the message under way, or the first of a message where none was under way
   pub data Flow (s : State r) (e : Event Given) (s' : State r) (o : Out r) : Type 0 where

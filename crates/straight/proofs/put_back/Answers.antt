@@ -1,0 +1,24 @@
+-- `straight::put_back` meets its contract: five writes, one behind the other. Assumes nothing.
+use Prim.Native.Nat.{ℕ, ◌/◌, ◌%◌}
+use mathlib.Core.List.{[], ◌∷◌}
+use mathlib.Core.Path.{refl, ap}
+use native.Mathlib.Omega.{arith}
+use Rattle.laws.proofs.OverLaws.{last, next, run}
+use Rattle.digits.specs.Digits.{digits}
+use Rattle.pointed.specs.Pointed.{pointed}
+use Rattle.pupil.specs.Pupil.{pupil_text}
+use Rattle.record.specs.Forms.{back_text}
+use Rattle.straight.proofs.Written.{tagged_as, pupil_as}
+use borrow.Author.Rules.{rules}
+use Rattle.straight.proofs.put_back.Goals as goal
+
+pub returns : goal.returns
+unfolding back_text pointed pupil_text digits
+returns c =
+    run
+    (next _ (tagged_as _ 48 86 3 (ap (λ (n : ℕ). n / 10) c.number_in-view.ensures) c.put_tagged.ensures) refl
+    (next _ (tagged_as _ 52 46 1 (ap (λ (n : ℕ). n % 10) c.number_in-view.ensures) c.put_tagged-2.ensures) refl
+    (next (69 ∷ []) c.put_byte.ensures refl
+    (next _ (pupil_as _ c.sign_in.ensures c.number_in-code.ensures c.put_tagged-3.ensures) refl
+    (last _ (tagged_as _ 59 122 4 c.number_in.ensures c.put_tagged-4.ensures) refl)))))
+    (omega (arith, c.requires.0))
