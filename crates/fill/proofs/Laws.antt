@@ -9,14 +9,11 @@ use borrow.Author.Tests.{le-ltb, ne_eqb}
 use lib.Dec.{eqb}
 use lib.ListN.{length, get_or, take, drop, set, length-append}
 use lib.Seq.{drop-cons}
-use types.Run.{OneOf, miss}
-use denote.Enum.Declared.{tag_of}
 use Rattle.laws.specs.Over.{over}
 use Rattle.laws.proofs.OverLaws.{over_fits, over_next, sets_over, length_over}
 use Rattle.laws.proofs.Tests.{cond_yes, cond_no}
 use Rattle.state.specs.declared.Source.{Source}
 use Rattle.state.specs.State.{message_length}
-use Rattle.port.specs.contracts.Sent.{the_type}
 use Rattle.port.proofs.Promises.{kept_valid}
 use Rattle.port.proofs.State.{under_way_lem}
 use Rattle.port.proofs.Valid.{message_valid, message_low}
@@ -163,8 +160,8 @@ pub record Ends (l₀ : List ℕ) (p t : Port) (n : ℕ) (l : List ℕ) : Type 0
   pub bytes : l ≡ over l₀ 0 (run_of (length l₀) p).bytes
 
 -- a slot that sends nothing ends the run
-quiet : (t : Sent) (q : Port) (r : SlotRun) → OneOf (1 ∷ 2 ∷ []) (tag_of the_type t) → then_run t q r ≡ record { port = q; bytes = [] }
-quiet (Byte b) q r h = absurd (miss (1 ∷ 2 ∷ []) 0 tt h)
+quiet : (t : Sent) (q : Port) (r : SlotRun) → ((b : ℕ) → t ≡ Byte b → ⊥) → then_run t q r ≡ record { port = q; bytes = [] }
+quiet (Byte b) q r h = absurd (h b refl)
 quiet Idle q r h = refl
 quiet (Refused n) q r h = refl
 
@@ -223,7 +220,7 @@ module _ {l₀ : List ℕ} {p : Port} {l : List ℕ} {q : Port} {i : ℕ} (a : A
       ends q (ap (λ (k : ℕ). run_of k q) z)
 
   -- a slot sends nothing
-  pub stops : i < length l → (s : Slotted) → s ≡ slot_of q → OneOf (1 ∷ 2 ∷ []) (tag_of the_type s.sent) → Ends l₀ p s.port i l
+  pub stops : i < length l → (s : Slotted) → s ≡ slot_of q → ((b : ℕ) → s.sent ≡ Byte b → ⊥) → Ends l₀ p s.port i l
   unfolding run_of
   stops h s e k =
       let m = as_long_lem a in

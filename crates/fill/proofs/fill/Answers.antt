@@ -136,7 +136,7 @@ shape_of-out-in_default c = as_long_lem (head c.before.before.before.before).so_
 
 pub returns-in_default : goal.returns-in_default
 returns-in_default c =
-    done (valid c.before.before.before.before.before.before.before.before.before.before) (stops (head c.before.before.before.before).so_far c.loop-i-test.true c.choose-s.result (slotted c.before.before) c.in_default.in_default-own.keys2)
+    done (valid c.before.before.before.before.before.before.before.before.before.before) (stops (head c.before.before.before.before).so_far c.loop-i-test.true c.choose-s.result (slotted c.before.before) c.in_default.not-Byte)
 
 pub shape_of-out : goal.shape_of-out
 shape_of-out c = as_long_lem (head c.before).so_far
