@@ -10,7 +10,7 @@ import sys
 import typing
 
 ROOT = pathlib.Path(__file__).resolve().parent.parent.parent
-PROGRAM = ROOT / "target/bin/replay"
+PROGRAM = ROOT / "crates/replay/out/replay"
 STOP = 100000  # the slots after which a replay ends
 CR = 13
 NUMBERS = (b"0 ", b"1 ")  # what may stand before an event of a capture of both connectors

@@ -114,8 +114,7 @@ fn answer_room(width: usize, room: usize) -> Answer
 // ---- the conversion and the checksum
 
 // A number of a field in the wanted unit.
-#[unsafe(no_mangle)]
-pub extern "C" fn heron_convert(field: u32, number: i32, unit: u8, wanted: u8) -> Conversion
+pub fn heron_convert(field: u32, number: i32, unit: u8, wanted: u8) -> Conversion
     ensures { HeronConvert field number unit wanted result }
 {
     match units::convert(field, number, unit, wanted) {
@@ -133,8 +132,7 @@ pub extern "C" fn heron_convert(field: u32, number: i32, unit: u8, wanted: u8) -
 }
 
 // The checksum of some bytes: its first character times 256, and its second.
-#[unsafe(no_mangle)]
-pub extern "C" fn heron_checksum(bytes: &[u8]) -> Answer
+pub fn heron_checksum(bytes: &[u8]) -> Answer
     ensures { HeronChecksum bytes.now result }
 {
     let sum = frame::sum_of(bytes);
@@ -144,8 +142,7 @@ pub extern "C" fn heron_checksum(bytes: &[u8]) -> Answer
 // ---- the writers of a record
 
 // Writes a record as text.
-#[unsafe(no_mangle)]
-pub extern "C" fn heron_write_text(
+pub fn heron_write_text(
     focus: u32,
     aperture: u32,
     stop: u32,
@@ -182,8 +179,7 @@ pub extern "C" fn heron_write_text(
 }
 
 // Writes a record packed.
-#[unsafe(no_mangle)]
-pub extern "C" fn heron_write_packed(
+pub fn heron_write_packed(
     focus: u32,
     aperture: u32,
     stop: u32,
@@ -238,16 +234,14 @@ fn lay_record(read: RecordRead, out: &mut [u8]) -> Answer
 }
 
 // Reads a text record into the lent memory.
-#[unsafe(no_mangle)]
-pub extern "C" fn heron_read_text(message: &[u8], checksum: bool, out: &mut [u8]) -> Answer
+pub fn heron_read_text(message: &[u8], checksum: bool, out: &mut [u8]) -> Answer
     ensures { HeronReadText message.now checksum out.old result out.new }
 {
     lay_record(text_reader::read_text(message, checksum), out)
 }
 
 // Reads a packed record into the lent memory.
-#[unsafe(no_mangle)]
-pub extern "C" fn heron_read_packed(message: &[u8], checksum: bool, out: &mut [u8]) -> Answer
+pub fn heron_read_packed(message: &[u8], checksum: bool, out: &mut [u8]) -> Answer
     ensures { HeronReadPacked message.now checksum out.old result out.new }
 {
     lay_record(packed_reader::read_packed(message, checksum), out)
@@ -256,16 +250,14 @@ pub extern "C" fn heron_read_packed(message: &[u8], checksum: bool, out: &mut [u
 // ---- old text records
 
 // Moves an old line to the present form, with this serial.
-#[unsafe(no_mangle)]
-pub extern "C" fn heron_old_to_new(message: &[u8], serial: &[u8], out: &mut [u8]) -> Answer
+pub fn heron_old_to_new(message: &[u8], serial: &[u8], out: &mut [u8]) -> Answer
     ensures { HeronOldToNew message.now serial.now out.old result out.new }
 {
     answer_to(archive::old_to_new(message, serial, out))
 }
 
 // Moves a line of the present form back.
-#[unsafe(no_mangle)]
-pub extern "C" fn heron_new_to_old(message: &[u8], out: &mut [u8]) -> Answer
+pub fn heron_new_to_old(message: &[u8], out: &mut [u8]) -> Answer
     ensures { HeronNewToOld message.now out.old result out.new }
 {
     answer_to(archive::new_to_old(message, out))
@@ -274,16 +266,14 @@ pub extern "C" fn heron_new_to_old(message: &[u8], out: &mut [u8]) -> Answer
 // ---- packed records as text
 
 // Turns a packed record's message into its text message.
-#[unsafe(no_mangle)]
-pub extern "C" fn heron_packed_to_text(message: &[u8], checksum: bool, out: &mut [u8]) -> Answer
+pub fn heron_packed_to_text(message: &[u8], checksum: bool, out: &mut [u8]) -> Answer
     ensures { HeronPackedToText message.now checksum out.old result out.new }
 {
     answer_to(transfer::packed_to_text(message, checksum, out))
 }
 
 // Does the same by way of the record.
-#[unsafe(no_mangle)]
-pub extern "C" fn heron_packed_to_text_by_record(
+pub fn heron_packed_to_text_by_record(
     message: &[u8],
     checksum: bool,
     out: &mut [u8],
@@ -296,8 +286,7 @@ pub extern "C" fn heron_packed_to_text_by_record(
 // ---- the fixed data
 
 // Writes an N message.
-#[unsafe(no_mangle)]
-pub extern "C" fn heron_write_fixed(
+pub fn heron_write_fixed(
     serial: &[u8],
     owner: &[u8],
     kind: u8,
@@ -340,16 +329,14 @@ fn lay_fixed(read: FixedRead, out: &mut [u8]) -> Answer
 }
 
 // Reads an N message into the lent memory.
-#[unsafe(no_mangle)]
-pub extern "C" fn heron_read_fixed(message: &[u8], checksum: bool, out: &mut [u8]) -> Answer
+pub fn heron_read_fixed(message: &[u8], checksum: bool, out: &mut [u8]) -> Answer
     ensures { HeronReadFixed message.now checksum out.old result out.new }
 {
     lay_fixed(nreader::read_fixed(message, checksum), out)
 }
 
 // Where the owner's part of an N message starts.
-#[unsafe(no_mangle)]
-pub extern "C" fn heron_owner_start(message: &[u8], checksum: bool) -> Answer
+pub fn heron_owner_start(message: &[u8], checksum: bool) -> Answer
     ensures { HeronOwnerStart message.now checksum result }
 {
     let read = nreader::read_fixed(message, checksum);
@@ -361,8 +348,7 @@ pub extern "C" fn heron_owner_start(message: &[u8], checksum: bool) -> Answer
 }
 
 // How long the owner's part of an N message is, without its trailing spaces.
-#[unsafe(no_mangle)]
-pub extern "C" fn heron_owner_len(message: &[u8], checksum: bool) -> Answer
+pub fn heron_owner_len(message: &[u8], checksum: bool) -> Answer
     ensures { HeronOwnerLen message.now checksum result }
 {
     let read = nreader::read_fixed(message, checksum);
@@ -380,8 +366,7 @@ pub extern "C" fn heron_owner_len(message: &[u8], checksum: bool) -> Answer
 // ---- the line collector
 
 // A received byte, to a collector that is updated where it is kept.
-#[unsafe(no_mangle)]
-pub extern "C" fn heron_collect(line: &mut Line, byte: u8) -> Collected
+pub fn heron_collect(line: &mut Line, byte: u8) -> Collected
     ensures { HeronCollect line.old byte result line.new }
 {
     collector::collect(line, byte)
@@ -419,8 +404,7 @@ fn ended(answer: Answer, used: usize) -> CutValue
 }
 
 // Takes a piece up to the first end of a message, which is read as a text record, or all of it.
-#[unsafe(no_mangle)]
-pub extern "C" fn heron_cut_text_value(
+pub fn heron_cut_text_value(
     cutter: Cutter,
     piece: &[u8],
     checksum: bool,
@@ -437,8 +421,7 @@ pub extern "C" fn heron_cut_text_value(
 }
 
 // Takes a piece up to the first end of a message, which is read as a packed record, or all of it.
-#[unsafe(no_mangle)]
-pub extern "C" fn heron_cut_packed_value(
+pub fn heron_cut_packed_value(
     cutter: Cutter,
     piece: &[u8],
     checksum: bool,
@@ -455,8 +438,7 @@ pub extern "C" fn heron_cut_packed_value(
 }
 
 // Takes a piece up to the first end of a message, which is read as fixed data, or all of it.
-#[unsafe(no_mangle)]
-pub extern "C" fn heron_cut_fixed_value(
+pub fn heron_cut_fixed_value(
     cutter: Cutter,
     piece: &[u8],
     checksum: bool,
@@ -473,8 +455,7 @@ pub extern "C" fn heron_cut_fixed_value(
 }
 
 // The same with the message itself handed out.
-#[unsafe(no_mangle)]
-pub extern "C" fn heron_cut_message_value(cutter: Cutter, piece: &[u8], out: &mut [u8]) -> CutValue
+pub fn heron_cut_message_value(cutter: Cutter, piece: &[u8], out: &mut [u8]) -> CutValue
     ensures { HeronCutMessageValue cutter piece.now out.old result out.new }
 {
     handed(cutter.cut(piece, out))
@@ -483,16 +464,14 @@ pub extern "C" fn heron_cut_message_value(cutter: Cutter, piece: &[u8], out: &mu
 // ---- the recorder
 
 // A recorder with the settings that one starts with.
-#[unsafe(no_mangle)]
-pub extern "C" fn heron_recorder_first() -> Recorder
+pub fn heron_recorder_first() -> Recorder
     ensures { HeronRecorderFirst result }
 {
     Recorder::start(Setup::first())
 }
 
 // A recorder with these settings.
-#[unsafe(no_mangle)]
-pub extern "C" fn heron_recorder_start(packed: bool, checksum: bool) -> Recorder
+pub fn heron_recorder_start(packed: bool, checksum: bool) -> Recorder
     ensures { HeronRecorderStart packed checksum result }
 {
     Recorder::start(Setup { packed, checksum })
@@ -512,8 +491,7 @@ fn handed_out(sending: HandedOut) -> SendValue
 }
 
 // What it has to send, to the lent memory.
-#[unsafe(no_mangle)]
-pub extern "C" fn heron_recorder_send_value(recorder: Recorder, out: &mut [u8]) -> SendValue
+pub fn heron_recorder_send_value(recorder: Recorder, out: &mut [u8]) -> SendValue
     ensures { HeronRecorderSendValue recorder out.old result out.new }
 {
     handed_out(recorder.send(out))
@@ -555,8 +533,7 @@ fn lay_taken(taken: Recorded, out: &mut [u8]) -> Answer
 }
 
 // Takes a piece up to the first end of a message, which is read as the recorder reads it, or all of it.
-#[unsafe(no_mangle)]
-pub extern "C" fn heron_recorder_take_value(
+pub fn heron_recorder_take_value(
     recorder: Recorder,
     piece: &[u8],
     out: &mut [u8],
