@@ -1,0 +1,11 @@
+-- `hourheron::heron_read_packed` meets its contract: what the reader answered is laid. Assumes nothing.
+use Rattle.frame.specs.Message.{read_of}
+use Rattle.record.specs.Forms.{packed_form}
+use Rattle.hourheron.proofs.Answers.{record_told}
+use borrow.Author.Rules.{rules}
+use Rattle.hourheron.proofs.heron_read_packed.Goals as goal
+
+pub returns : goal.returns
+returns c =
+    let a = c.args in
+    rw (record_told (read_of packed_form a.checksum a.message.now) c.read_packed.ensures) at c.lay_record.ensures

@@ -1,0 +1,15 @@
+-- `hourheron::heron_write_text` meets its contract: the record that is written stands for the one handed in. Assumes nothing.
+use mir.Facts.{to_z-of_z}
+use Rattle.refusal.specs.declared.Refusal.TheVariants.{Field}
+use Rattle.record.specs.Forms.{text_form}
+use Rattle.record.proofs.Exact.{text_lowest}
+use Rattle.serial.proofs.Given.{stands_record}
+use Rattle.hourheron.proofs.Answers.{writes_given}
+use borrow.Author.Rules.{rules}
+use Rattle.hourheron.proofs.heron_write_text.Goals as goal
+
+pub returns : goal.returns
+returns c =
+    let a = c.args in
+    let stands = stands_record text_form text_lowest _ a.serial.now c.record_from-record.ensures in
+    rw (to_z-of_z c.ranges.pupil) at (writes_given text_form Field a.checksum a.out.now stands c.record_to_text.ensures c.answer_to.ensures)
