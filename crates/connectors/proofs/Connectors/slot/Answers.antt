@@ -18,7 +18,7 @@ unfolding slot_in
 returns-in-At c =
     let b = c.args.self in
     at (slot_in b) (sym c.side_of-named.ensures ∙ c.in-At.is)
-    (named_port of (λ (x : Slotted). c.port) slot_of b c.in-At.side c.with_port.ensures c.slot-slotted.ensures c.port_at-port.ensures)
+    (named_port of (λ (x : Slotted). x.port) slot_of b c.in-At.side c.with_port.ensures c.slot-slotted.ensures c.port_at-port.ensures)
 
 pub returns-in-Nowhere : goal.returns-in-Nowhere
 unfolding slot_in
