@@ -1,18 +1,16 @@
 -- `printed::put_slot` meets its contract: two characters either way. Assumes nothing.
+use Prim.Native.Nat.{ℕ}
 use mathlib.Core.List.{[], ◌∷◌}
 use mathlib.Core.Path.{◌≡◌, refl, sym, ap, ap₂, ◌∙◌}
-use types.Run.{OneOf, miss}
-use denote.Enum.Declared.{tag_of}
 use Rattle.laws.specs.Over.{over}
-use Rattle.port.specs.contracts.Sent.{the_type}
 use Rattle.port.specs.declared.Sent.{Sent}
 use Rattle.port.specs.declared.Sent.TheVariants.{Byte, Idle, Refused}
 use Rattle.printed.specs.Printed.{slot_text}
 use borrow.Author.Rules.{rules}
 use Rattle.printed.proofs.put_slot.Goals as goal
 
-dashes : (s : Sent) → OneOf (1 ∷ 2 ∷ []) (tag_of the_type s) → slot_text s ≡ 45 ∷ 45 ∷ []
-dashes (Byte b) h = absurd (miss (1 ∷ 2 ∷ []) 0 tt h)
+dashes : (s : Sent) → ((b : ℕ) → s ≡ Byte b → ⊥) → slot_text s ≡ 45 ∷ 45 ∷ []
+dashes (Byte b) h = absurd (h b refl)
 dashes Idle h = refl
 dashes (Refused r) h = refl
 
@@ -25,4 +23,4 @@ returns-in-Byte c =
 pub returns-in_default : goal.returns-in_default
 returns-in_default c =
     let a = c.args in
-    c.put_pair-in_default.ensures ∙ ap (over _ a.at) (sym (dashes a.sent c.in_default.in_default-own.keys2))
+    c.put_pair-in_default.ensures ∙ ap (over _ a.at) (sym (dashes a.sent c.in_default.not-Byte))

@@ -1,0 +1,12 @@
+-- `telling::Run::tell_other` meets its contract: what was printed decides which run is handed back. Assumes nothing.
+use Rattle.capture.specs.declared.Event.TheVariants as event
+use Rattle.telling.specs.Telling.{tells}
+use Rattle.telling.proofs.Laws.{told_by_lem}
+use borrow.Author.Rules.{rules}
+use Rattle.telling.proofs.Run.tell_other.Goals as goal
+
+pub returns : goal.returns
+unfolding tells
+returns c =
+    let a = c.args in
+    told_by_lem (tells a.self event.Other) a.self a.out.now c.put_verdict.ensures c.handed_by.ensures

@@ -1,0 +1,11 @@
+use mathlib.Core.Path.{◌≡◌, refl}
+use native.Mathlib.Omega.{arith}
+use borrow.Author.Rules.{rules}
+use Rattle.printed.proofs.Laws.{At, at_start, as_long_lem, one_more, all_told, all_run}
+use Rattle.telling.proofs.put_slots.Given as goal
+
+abbrev pub invariant-loop-left : goal.invariant-loop-left
+invariant-loop-left l = At l.initial.out l.initial.now l.initial.left l.out l.now l.left l.at
+
+abbrev pub decreases-loop-left : goal.decreases-loop-left
+decreases-loop-left l = l.left
