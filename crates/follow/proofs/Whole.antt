@@ -156,7 +156,7 @@ comes_by f piece out n s t g h c i (short v low room e l) = never (cc)
 
 comes : {w : List ℕ} {f : Follower} {s t : List ℕ} {g : Follower} → Fed f s t g → Has w f → Comes w f s t g
 comes {w} no_more h = record { left = w; has = h; tells = λ rest. refl }
-comes (next f piece out n s t g c fed) h = comes_by f piece out n s t g h c (λ v k. comes fed k) (took f piece out)
+comes {w = w} (next f piece out n s t g c fed) h = comes_by f piece out n s t g h c (λ v k. comes {w = v} fed k) (took f piece out)
 
 -- ---- the end of the text
 

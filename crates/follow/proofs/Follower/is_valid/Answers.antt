@@ -1,0 +1,6 @@
+-- `follow::Follower::is_valid` meets its contract. Assumes nothing.
+use borrow.Author.Rules.{rules}
+use Rattle.follow.proofs.Follower.is_valid.Goals as goal
+
+pub returns : goal.returns
+returns c = cc

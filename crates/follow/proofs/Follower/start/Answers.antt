@@ -1,0 +1,6 @@
+-- `follow::Follower::start` meets its contract. Assumes nothing.
+use borrow.Author.Rules.{rules}
+use Rattle.follow.proofs.Follower.start.Goals as goal
+
+pub returns : goal.returns
+returns c = cc

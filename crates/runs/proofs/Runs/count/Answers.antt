@@ -1,0 +1,19 @@
+-- `runs::Runs::count` meets its contract: 16, then the number printed. Assumes nothing.
+use mathlib.Core.Path.{refl, sym, ◌∙◌}
+use borrow.Author.Tests.{not-true, not-false}
+use Rattle.laws.proofs.Tests.{yes, no}
+use Rattle.runs.specs.Runs.{count_both, count_both_leaves}
+use borrow.Author.Rules.{rules}
+use Rattle.runs.proofs.Runs.count.Goals as goal
+
+pub returns-then-not-is_valid : goal.returns-then-not-is_valid
+unfolding count_both count_both_leaves
+returns-then-not-is_valid c =
+    let v = sym c.is_valid.ensures ∙ c.if-not-is_valid.true in
+    record { answers = no _ v refl; leaves = no _ v refl }
+
+pub returns : goal.returns
+unfolding count_both count_both_leaves
+returns c =
+    let v = sym c.is_valid.ensures ∙ c.if-not-is_valid.false in
+    record { answers = yes _ v c.put_count.ensures.answers; leaves = yes _ v c.put_count.ensures.leaves }

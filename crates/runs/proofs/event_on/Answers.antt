@@ -1,0 +1,6 @@
+-- `runs::event_on` meets its contract. Assumes nothing.
+use borrow.Author.Rules.{rules}
+use Rattle.runs.proofs.event_on.Goals as goal
+
+pub returns : goal.returns
+returns c = cc
