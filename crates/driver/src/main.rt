@@ -10,24 +10,30 @@
 // byte slots run until idle, at most 400. On a line, a turn is a slot: its byte is written, and a received
 // byte is taken if one has come. While the lens sends, the driver does not wait for input; where nothing is
 // left to send, it does. After every sixteenth slot that sent, it sleeps for the time of sixteen at the rate
-// that the port has then; a signal may end a sleep early. So that it can look without waiting, whoever starts
-// it sets O_NONBLOCK on standard input. Until a look has come back empty, it takes its input for one that
-// waits.
+// that the port has then. So that it can look without waiting, whoever starts it sets O_NONBLOCK on standard
+// input. Until a look has come back empty, it takes its input for one that waits.
 #![tactic(auto)]
+
 mod ports;
 
 ghost use Rattle.std.specs.Prelude.{◌≡◌};
 ghost use Rattle.collector.specs.Collect.{line_after};
 ghost use Rattle.walk.specs.InPlace.{port_in_place};
 
-use libc::types::timespec;
-use libc::{EAGAIN, EINTR, STDERR_FILENO, STDIN_FILENO, STDOUT_FILENO};
 use line::Line;
 use port::Port;
 use refusal::Verdict;
+use std::fs::File;
+use std::io::{Eprint, ErrorKind, Input, Print, Read, Write};
+use std::rt::{Clock, Env, Files};
+use std::time::Duration;
+use std::{io, thread};
 
 // The slots of a turn on an input that waits.
 const MOST: usize = 400;
+
+// The room for an argument; a longer one is no word that the program knows.
+const WORD_LENGTH: usize = 4096;
 
 // The port and its collector.
 #[derive(Clone, Copy)]
@@ -84,34 +90,36 @@ fn received(port: Port, line: Line, byte: u8) -> Held
 }
 
 // A call that failed may be made once more: it would have waited, or a signal came.
-fn is_for_later() -> bool {
-    let error = os::errno();
-    (error == EAGAIN) | (error == EINTR)
+fn is_for_later(error: &io::Error) -> bool {
+    let kind = error.kind();
+    (kind == ErrorKind::WouldBlock) | (kind == ErrorKind::Interrupted)
 }
 
-// One byte of an input, if there is one.
-fn look(fd: i32) -> Seen {
-    let mut byte = [0u8; 1];
-    let got = libc::read(fd, &mut byte);
-    if 0 < got {
-        return Seen::Byte(byte[0]);
-    }
-    if got == 0 {
+// One byte of an input, if there is one. An input that is not there has ended.
+fn look<I: Read>(input: &mut Option<I>) -> Seen {
+    let Some(reader) = input else {
         return Seen::End;
+    };
+    let mut byte = [0u8; 1];
+    match reader.read(&mut byte) {
+        Ok(0) => Seen::End,
+        Ok(_) => Seen::Byte(byte[0]),
+        Err(error) => {
+            if is_for_later(&error) {
+                return Seen::Nothing;
+            }
+            Seen::End
+        }
     }
-    if is_for_later() {
-        return Seen::Nothing;
-    }
-    Seen::End
 }
 
 // Runs slots into a lent buffer and writes the bytes sent.
-fn sent(port: Port, out: &mut [u8]) -> Turn {
+fn sent(output: &mut impl Write, port: Port, out: &mut [u8]) -> Turn {
     let filled = fill::fill(port, out);
     let n = filled.count;
     let next = filled.port;
     let full = n == out.len();
-    let written = io::write_all(STDOUT_FILENO, &out[..n]);
+    let written = output.write_all(&out[..n]).is_ok();
     Turn {
         port: next,
         full,
@@ -120,25 +128,23 @@ fn sent(port: Port, out: &mut [u8]) -> Turn {
 }
 
 // The slots of a turn.
-fn slots(port: Port, waits: bool) -> Turn {
+fn slots(output: &mut impl Write, port: Port, waits: bool) -> Turn {
     if waits {
         let mut out = [0u8; MOST];
-        return sent(port, &mut out);
+        return sent(output, port, &mut out);
     }
     let mut out = [0u8; 1];
-    sent(port, &mut out)
+    sent(output, port, &mut out)
 }
 
-// Waits for this time; a signal may end the wait early.
-fn pause(time: timespec) {
-    let asked = time;
-    let mut left = time;
-    libc::nanosleep(&asked, &mut left);
+// Waits for so many nanoseconds.
+fn pause(clock: &impl Clock, nanoseconds: u64) {
+    thread::sleep(clock, Duration::from_nanos(nanoseconds));
 }
 
-// The time of sixteen slots, ten bits each, at a rate number.
-fn sixteen_slots(rate: u8) -> timespec {
-    let nanoseconds = match rate {
+// The nanoseconds of sixteen slots, ten bits each, at a rate number.
+fn sixteen_slots(rate: u8) -> u64 {
+    match rate {
         0 => 16666667,
         1 => 8333334,
         2 => 4166667,
@@ -147,15 +153,11 @@ fn sixteen_slots(rate: u8) -> timespec {
         5 => 1666667,
         6 => 1388889,
         _ => 694445,
-    };
-    timespec {
-        tv_sec: 0,
-        tv_nsec: nanoseconds,
     }
 }
 
 // On a line, after every sixteenth slot that sent, the time of sixteen passes.
-fn paced(desk: Desk) -> Desk {
+fn paced(clock: &impl Clock, desk: Desk) -> Desk {
     let mut after = desk;
     if desk.waits {
         return after;
@@ -169,7 +171,7 @@ fn paced(desk: Desk) -> Desk {
     let port = lens.port;
     let source = port.source;
     let modes = source.modes;
-    pause(sixteen_slots(modes.rate));
+    pause(clock, sixteen_slots(modes.rate));
     after.since = 0;
     after
 }
@@ -194,10 +196,15 @@ fn noted(desk: Desk, found: Seen) -> Desk {
 }
 
 // A turn: slots, then a look; where nothing is left to send and nothing has come, a look that waits.
-fn take_turn(desk: Desk, waiting: i32) -> Desk {
+fn take_turn<I: Read, W: Read>(
+    rt: &(impl Print + Clock),
+    desk: Desk,
+    input: &mut Option<I>,
+    waiting: &mut Option<W>,
+) -> Desk {
     let lens = desk.lens;
     let line = lens.line;
-    let turn = slots(lens.port, desk.waits);
+    let turn = slots(&mut io::writer(rt), lens.port, desk.waits);
     let port = turn.port;
     let now = Held { port, line };
     let mut after = desk;
@@ -206,9 +213,9 @@ fn take_turn(desk: Desk, waiting: i32) -> Desk {
     if !turn.written {
         return after;
     }
-    let found = look(STDIN_FILENO);
+    let found = look(input);
     if turn.full {
-        return noted(paced(after), found);
+        return noted(paced(rt, after), found);
     }
     if let Seen::Nothing = found {
         return noted(noted(after, found), look(waiting));
@@ -216,39 +223,39 @@ fn take_turn(desk: Desk, waiting: i32) -> Desk {
     noted(after, found)
 }
 
-// A proved loop has to end, and nothing says that the input does: the turns count down from a number
-// that no run uses up.
-fn run(desk: Desk, waiting: i32) {
+// A proved loop has to end, and nothing says that the input does: the turns count up to a number that no run
+// reaches.
+fn run<I: Read, W: Read>(
+    rt: &(impl Print + Clock),
+    desk: Desk,
+    input: &mut Option<I>,
+    waiting: &mut Option<W>,
+) {
     let mut now = desk;
-    let mut turns = u64::MAX;
-    while 0 < turns {
+    for _ in 0..u64::MAX {
         if !now.open {
             return;
         }
-        now = take_turn(now, waiting);
-        turns -= 1;
+        now = take_turn(rt, now, input, waiting);
     }
 }
 
 // The start-up letter that an argument gives.
-fn start_letter(number: usize) -> u8 {
-    let mut word = io::buffer();
-    let n = os::arg(number, &mut word);
+fn start_letter(rt: &impl Env, number: usize) -> u8 {
+    let mut word = [0u8; WORD_LENGTH];
+    let n = rt.arg(number, &mut word).unwrap_or(0);
     bench_lens::letter_of(&word[..n])
 }
 
 // Tells that the letter was refused.
-fn tell_letter() {
-    io::write_all(
-        STDERR_FILENO,
-        b"driver: the start-up letter is none of I, M, B, b\n",
-    );
+fn tell_letter(rt: &impl Eprint) {
+    let _ = eprintln!(rt; "driver: the start-up letter is none of I, M, B, b");
 }
 
 // The first argument asks for both ports.
-fn asks_for_ports() -> bool {
-    let mut word = io::buffer();
-    let n = os::arg(1, &mut word);
+fn asks_for_ports(rt: &impl Env) -> bool {
+    let mut word = [0u8; WORD_LENGTH];
+    let n = rt.arg(1, &mut word).unwrap_or(0);
     is_ports(&word[..n])
 }
 
@@ -264,7 +271,7 @@ fn is_ports(word: &[u8]) -> bool {
 }
 
 // One port, on standard input and output.
-fn serve(letter: u8) {
+fn serve(rt: &(impl Input + Print + Eprint + Files + Clock), letter: u8) {
     let started = Port::start(
         Port::unstarted(),
         Line::blank(),
@@ -273,29 +280,28 @@ fn serve(letter: u8) {
     );
     let verdict = started.verdict;
     if let Verdict::Refused(_) = verdict {
-        tell_letter();
+        tell_letter(rt);
         return;
     }
     let port = started.port;
     let line = started.line;
     let lens = Held { port, line };
-    // standard input once more, as a descriptor that waits
-    let waiting = os::open_read(b"/dev/stdin");
-    run(
-        Desk {
-            lens,
-            waits: true,
-            since: 0,
-            open: true,
-        },
-        waiting,
-    );
+    let mut input = Some(rt.reader());
+    // standard input once more, as a file whose reads wait
+    let mut waiting = File::open(rt, "/dev/stdin").ok();
+    let desk = Desk {
+        lens,
+        waits: true,
+        since: 0,
+        open: true,
+    };
+    run(rt, desk, &mut input, &mut waiting);
 }
 
-fn main() {
-    if asks_for_ports() {
-        ports::serve(start_letter(2));
+fn main(rt: HostRuntime) {
+    if asks_for_ports(&rt) {
+        ports::serve(&rt, start_letter(&rt, 2));
         return;
     }
-    serve(start_letter(1));
+    serve(&rt, start_letter(&rt, 1));
 }

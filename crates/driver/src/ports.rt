@@ -8,6 +8,9 @@
 // most a tick after it came. A slot whose byte the line does not take is not run: that port's time stands
 // still, nothing of it is lost, and the other goes on. Where an input ends, its port goes on being sent to;
 // where both have ended, the program ends.
+//
+// Descriptors 3 and 4 are opened once more by their names in /dev/fd, since a program reaches a file by its name;
+// what is opened so does not wait either, and writes to a file's end.
 ghost use Rattle.std.specs.Prelude.{◌≤◌, ◌≡◌, length};
 ghost use Rattle.driver.specs.Ports.{box_in_place, Ran};
 ghost use Rattle.collector.specs.Collect.{line_after};
@@ -15,17 +18,21 @@ ghost use Rattle.connectors.specs.Connectors.{side_of};
 
 use super::{Seen, is_for_later, look, pause, tell_letter};
 use connectors::{Connectors, Lines};
-use libc::types::timespec;
-use libc::{STDIN_FILENO, STDOUT_FILENO};
 use line::Line;
 use refusal::Verdict;
+use std::fs::{File, OpenOptions};
+use std::io::{Eprint, Input, Print, Read, Write};
+use std::os::fd::OwnedFd;
+use std::os::unix::net::UnixStream;
+use std::rt::{Clock, Files};
+use std::{fs, io};
 
-const EXTERNAL_INPUT: i32 = 3;
+const EXTERNAL_INPUT: &str = "/dev/fd/3";
 
-const EXTERNAL_OUTPUT: i32 = 4;
+const EXTERNAL_OUTPUT: &str = "/dev/fd/4";
 
-// A 960th of a second, and the most slots that a port runs in it.
-const TICK: i64 = 1041667;
+// A 960th of a second, in nanoseconds, and the most slots that a port runs in it.
+const TICK: u64 = 1041667;
 
 const MOST: usize = 24;
 
@@ -33,11 +40,16 @@ const MOST: usize = 24;
 #[derive(Clone, Copy)]
 struct Plug {
     number: u8,
-    input: i32,
-    output: i32,
     line: Line,
     // more bytes may come
     open: bool,
+}
+
+// Where a port's bytes come from and go to. One that is not there has ended, or is gone.
+#[derive(Drop)]
+struct Ends<I, O> {
+    input: Option<I>,
+    output: Option<O>,
 }
 
 // The box, and one of its ports in a tick.
@@ -87,7 +99,7 @@ fn received(served: Served, byte: u8) -> Served
 }
 
 // Writes bytes as far as the line takes them now.
-fn put(output: i32, bytes: &[u8]) -> Took
+fn put<O: Write>(output: &mut Option<O>, bytes: &[u8]) -> Took
     ensures { result.count ≤ length bytes.now }
 {
     if bytes.len() == 0 {
@@ -96,22 +108,24 @@ fn put(output: i32, bytes: &[u8]) -> Took
             gone: false,
         };
     }
-    let got = libc::write(output, bytes);
-    if got < 0 {
+    let Some(writer) = output else {
         return Took {
             count: 0,
-            gone: !is_for_later(),
+            gone: true,
         };
-    }
-    Took {
-        count: io::count(got, bytes),
-        gone: false,
+    };
+    match writer.write(bytes) {
+        Ok(count) => Took { count, gone: false },
+        Err(error) => Took {
+            count: 0,
+            gone: !is_for_later(&error),
+        },
     }
 }
 
 // Runs as many slots of the port as a lent buffer has bytes, and writes what they send. Where the line takes
 // less, the slots are run anew from the box before them, as many as it took.
-fn sent(served: Served, out: &mut [u8]) -> Served
+fn sent<O: Write>(output: &mut Option<O>, served: Served, out: &mut [u8]) -> Served
     ensures { Ran served.connectors served.plug.number (length out.old) result.connectors }
 {
     let mut plug = served.plug;
@@ -119,7 +133,7 @@ fn sent(served: Served, out: &mut [u8]) -> Served
     let before = served.connectors;
     let filled = before.fill(number, out);
     let n = filled.count;
-    let took = put(plug.output, &out[..n]);
+    let took = put(output, &out[..n]);
     let taken = took.count;
     if taken == n {
         let connectors = filled.connectors;
@@ -140,26 +154,26 @@ fn sent(served: Served, out: &mut [u8]) -> Served
 }
 
 // So many slots of the port, if it has as much to send.
-fn slots(served: Served, count: usize) -> Served
+fn slots<O: Write>(output: &mut Option<O>, served: Served, count: usize) -> Served
     requires { count ≤ 24 }
 {
     let mut out = [0u8; MOST];
-    sent(served, &mut out[..count])
+    sent(output, served, &mut out[..count])
 }
 
 // A look at the port's input; one that has ended has nothing.
-fn looked(plug: Plug) -> Seen {
+fn looked<I: Read>(input: &mut Option<I>, plug: Plug) -> Seen {
     if !plug.open {
         return Seen::Nothing;
     }
-    look(plug.input)
+    look(input)
 }
 
 // No byte has come: the rest of the port's slots run, and its tick is over.
-fn finished(served: Served, rest: usize) -> Served
+fn finished<O: Write>(output: &mut Option<O>, served: Served, rest: usize) -> Served
     requires { rest ≤ 24 }
 {
-    let mut after = slots(served, rest);
+    let mut after = slots(output, served, rest);
     after.goes_on = false;
     after
 }
@@ -174,18 +188,18 @@ fn closed(served: Served) -> Served {
 }
 
 // A turn of the port: a slot, then a look.
-fn take_turn(served: Served, rest: usize) -> Served
+fn take_turn<I: Read, O: Write>(ends: &mut Ends<I, O>, served: Served, rest: usize) -> Served
     requires { rest ≤ 24 }
 {
-    let after = slots(served, 1);
+    let after = slots(&mut ends.output, served, 1);
     if !after.goes_on {
         return after;
     }
-    let found = looked(after.plug);
+    let found = looked(&mut ends.input, after.plug);
     match found {
         Seen::Byte(byte) => received(after, byte),
-        Seen::Nothing => finished(after, rest),
-        Seen::End => finished(closed(after), rest),
+        Seen::Nothing => finished(&mut ends.output, after, rest),
+        Seen::End => finished(&mut ends.output, closed(after), rest),
     }
 }
 
@@ -218,7 +232,11 @@ fn rate_at(connectors: Connectors, number: u8) -> u8 {
 }
 
 // A port's turns in a tick.
-fn take_turns(connectors: Connectors, plug: Plug) -> Served {
+fn take_turns<I: Read, O: Write>(
+    ends: &mut Ends<I, O>,
+    connectors: Connectors,
+    plug: Plug,
+) -> Served {
     let mut now = Served {
         connectors,
         plug,
@@ -227,7 +245,7 @@ fn take_turns(connectors: Connectors, plug: Plug) -> Served {
     let mut left = slots_a_tick(rate_at(connectors, plug.number));
     while 0 < left {
         left -= 1;
-        now = take_turn(now, left);
+        now = take_turn(ends, now, left);
         if !now.goes_on {
             return now;
         }
@@ -236,13 +254,15 @@ fn take_turns(connectors: Connectors, plug: Plug) -> Served {
 }
 
 // A tick: each port's turns, then the time passes.
-fn take_tick(desk: Desk) -> Desk {
-    let first = take_turns(desk.connectors, desk.camera);
-    let second = take_turns(first.connectors, desk.external);
-    pause(timespec {
-        tv_sec: 0,
-        tv_nsec: TICK,
-    });
+fn take_tick<I: Read, O: Write, J: Read, P: Write>(
+    clock: &impl Clock,
+    desk: Desk,
+    camera_ends: &mut Ends<I, O>,
+    external_ends: &mut Ends<J, P>,
+) -> Desk {
+    let first = take_turns(camera_ends, desk.connectors, desk.camera);
+    let second = take_turns(external_ends, first.connectors, desk.external);
+    pause(clock, TICK);
     let connectors = second.connectors;
     let camera = first.plug;
     let external = second.plug;
@@ -253,23 +273,62 @@ fn take_tick(desk: Desk) -> Desk {
     }
 }
 
-// A proved loop has to end: the ticks count down from a number that no run uses up.
-fn run(desk: Desk) {
+// A proved loop has to end: the ticks count up to a number that no run reaches.
+fn run<I: Read, O: Write, J: Read, P: Write>(
+    clock: &impl Clock,
+    desk: Desk,
+    camera_ends: &mut Ends<I, O>,
+    external_ends: &mut Ends<J, P>,
+) {
     let mut now = desk;
-    let mut ticks = u64::MAX;
-    while 0 < ticks {
+    for _ in 0..u64::MAX {
         let camera = now.camera;
         let external = now.external;
         if !(camera.open | external.open) {
             return;
         }
-        now = take_tick(now);
-        ticks -= 1;
+        now = take_tick(clock, now, camera_ends, external_ends);
     }
 }
 
+// A file whose reads and writes fail where they would wait. That is a mode of what the file is open on, which its
+// handles share; std sets it at the type of a stream.
+fn not_waiting(file: File) -> io::Result<File> {
+    let handle = OwnedFd::from(file.try_clone()?);
+    UnixStream::from(handle).set_nonblocking(true)?;
+    Ok(file)
+}
+
+// The external connector's input, opened once more.
+fn external_input(rt: &impl Files<File = File>) -> io::Result<File> {
+    not_waiting(File::open(rt, EXTERNAL_INPUT)?)
+}
+
+// Its output, opened once more.
+fn external_output(rt: &impl Files<File = File>) -> io::Result<File> {
+    not_waiting(OpenOptions::new().append(true).open(rt, EXTERNAL_OUTPUT)?)
+}
+
+// The external connector's ends. Both are looked for before one is opened, since a file takes the lowest number
+// that is free, which may be that of a descriptor that is not there.
+fn external_ends(rt: &impl Files<File = File>) -> Ends<File, File> {
+    let is_input = fs::exists(rt, EXTERNAL_INPUT).unwrap_or(false);
+    let is_output = fs::exists(rt, EXTERNAL_OUTPUT).unwrap_or(false);
+    let input = if is_input {
+        external_input(rt).ok()
+    } else {
+        None
+    };
+    let output = if is_output {
+        external_output(rt).ok()
+    } else {
+        None
+    };
+    Ends { input, output }
+}
+
 // Both ports, from a start with this letter.
-pub(crate) fn serve(letter: u8) {
+pub(crate) fn serve(rt: &(impl Input + Print + Eprint + Files<File = File> + Clock), letter: u8) {
     let measurement = bench_lens::bench_measurement();
     let blank = Lines {
         camera: Line::blank(),
@@ -284,7 +343,7 @@ pub(crate) fn serve(letter: u8) {
     );
     let verdict = started.verdict;
     if let Verdict::Refused(_) = verdict {
-        tell_letter();
+        tell_letter(rt);
         return;
     }
     let connectors = started.connectors;
@@ -293,21 +352,22 @@ pub(crate) fn serve(letter: u8) {
     let external_line = lines.external;
     let camera = Plug {
         number: 0,
-        input: STDIN_FILENO,
-        output: STDOUT_FILENO,
         line: camera_line,
         open: true,
     };
     let external = Plug {
         number: 1,
-        input: EXTERNAL_INPUT,
-        output: EXTERNAL_OUTPUT,
         line: external_line,
         open: true,
     };
-    run(Desk {
+    let desk = Desk {
         connectors,
         camera,
         external,
-    });
+    };
+    let mut camera_ends = Ends {
+        input: Some(rt.reader()),
+        output: Some(io::writer(rt)),
+    };
+    run(rt, desk, &mut camera_ends, &mut external_ends(rt));
 }

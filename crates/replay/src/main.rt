@@ -11,18 +11,26 @@
 // prints `refused 10` and ends the run, as slot 100,000 does. Last come `slots` and the number run, on both ports. The
 // lens is the bench lens, on both ports; LETTER is another start-up letter than I.
 #![tactic(auto)]
+
 ghost use Rattle.std.specs.Prelude.{◌≡◌, ◌+◌, ◌≤◌, length};
 ghost use Rattle.replay.specs.Desk.{count_in};
 
 use follow::Follower;
 use frame::Wrote;
-use libc::{STDERR_FILENO, STDIN_FILENO, STDOUT_FILENO};
 use refusal::Verdict;
+use std::env::FillError;
+use std::io::{Print, Read};
+use std::rt::Env;
 
-// The room for what is printed, and what a call prints at most: 999 slots.
+// The room for what is printed and for what is read at once, and what a call prints at most: 999 slots.
 const OUTPUT_LENGTH: usize = 65536;
 
+const INPUT_LENGTH: usize = 65536;
+
 const LONGEST_TEXT: usize = 2997;
+
+// The room for an argument; a longer one is no word that the program knows.
+const WORD_LENGTH: usize = 4096;
 
 // The follower, how many bytes of the output are unwritten, and whether more of the input is taken.
 #[derive(Clone, Copy)]
@@ -47,21 +55,21 @@ struct Asked {
     understood: bool,
 }
 
-// Writes what is unwritten.
-fn write(out: &[u8], unwritten: usize) {
+// Writes what is unwritten. (Output that cannot be written is lost, and the run goes on.)
+fn write(to: &impl Print, out: &[u8], unwritten: usize) {
     if unwritten <= out.len() {
-        io::write_all(STDOUT_FILENO, &out[0..unwritten]);
+        let _ = to.write_all(&out[0..unwritten]);
     }
 }
 
 // Where the next text goes: behind the others, which are written first where it might not fit.
-fn place(out: &[u8], unwritten: usize) -> usize
+fn place(to: &impl Print, out: &[u8], unwritten: usize) -> usize
     ensures { result + 2997 ≤ 65536 }
 {
     if unwritten <= OUTPUT_LENGTH - LONGEST_TEXT {
         return unwritten;
     }
-    write(out, unwritten);
+    write(to, out, unwritten);
     0
 }
 
@@ -76,11 +84,11 @@ fn printed(wrote: Wrote) -> usize
 }
 
 // The next line of the input, or what has come of it.
-fn advance(desk: Desk, input: &[u8], out: &mut [u8]) -> Step
+fn advance(to: &impl Print, desk: Desk, input: &[u8], out: &mut [u8]) -> Step
     requires { length out.old ≡ 65536 }
     ensures { result.used ≤ length input.now }
 {
-    let at = place(out, desk.unwritten);
+    let at = place(to, out, desk.unwritten);
     let before = desk.follower;
     let followed = before.take(input, &mut out[at..]);
     let follower = followed.follower;
@@ -97,7 +105,7 @@ fn advance(desk: Desk, input: &[u8], out: &mut [u8]) -> Step
 }
 
 // The bytes of one read, line after line.
-fn take_all(desk: Desk, input: &[u8], out: &mut [u8]) -> Desk
+fn take_all(to: &impl Print, desk: Desk, input: &[u8], out: &mut [u8]) -> Desk
     requires { length out.old ≡ 65536 }
 {
     let mut now = desk;
@@ -106,7 +114,7 @@ fn take_all(desk: Desk, input: &[u8], out: &mut [u8]) -> Desk
         if !now.open {
             return now;
         }
-        let step = advance(now, &input[at..], out);
+        let step = advance(to, now, &input[at..], out);
         let after = step.desk;
         now = after;
         if step.used == 0 {
@@ -117,50 +125,47 @@ fn take_all(desk: Desk, input: &[u8], out: &mut [u8]) -> Desk
     now
 }
 
-// Reads once, and prints what the lines that came told. The end of the input closes the desk.
-fn turn(desk: Desk) -> Desk {
-    let mut input = io::large_buffer();
-    let got = libc::read(STDIN_FILENO, &mut input);
-    let n = io::count(got, &input);
+// Reads once, and prints what the lines that came told. The end of the input closes the desk, as a read that fails does.
+fn turn(from: &mut impl Read, to: &impl Print, desk: Desk) -> Desk {
+    let mut input = [0u8; INPUT_LENGTH];
+    let n = from.read(&mut input).unwrap_or(0);
     if n == 0 {
         let mut closed = desk;
         closed.open = false;
         return closed;
     }
-    let mut out = io::large_buffer();
-    let mut after = take_all(desk, &input[..n], &mut out);
-    write(&out, after.unwritten);
+    let mut out = [0u8; OUTPUT_LENGTH];
+    let mut after = take_all(to, desk, &input[..n], &mut out);
+    write(to, &out, after.unwritten);
     after.unwritten = 0;
     after
 }
 
-// A proved loop has to end, and nothing says that the input does: the turns count down from a number
-// that no run uses up.
-fn run_all(desk: Desk) -> Follower {
+// A proved loop has to end, and nothing says that the input does: the turns count up to a number that no run
+// reaches.
+fn run_all(from: &mut impl Read, to: &impl Print, desk: Desk) -> Follower {
     let mut now = desk;
-    let mut turns = u64::MAX;
-    while 0 < turns {
+    for _ in 0..u64::MAX {
         if !now.open {
             let follower = now.follower;
             return follower;
         }
-        now = turn(now);
-        turns -= 1;
+        now = turn(from, to, now);
     }
     let follower = now.follower;
     follower
 }
 
 // What a last line without its LF told, and the slots run.
-fn end(follower: Follower) {
-    let mut out = io::large_buffer();
+fn end(to: &impl Print, follower: Follower) {
+    let mut out = [0u8; OUTPUT_LENGTH];
     let closed = follower.close(&mut out);
     let wrote = closed.wrote;
-    write(&out, printed(wrote));
+    write(to, &out, printed(wrote));
     let after = closed.follower;
     let runs = after.runs;
     let counted = runs.count(&mut out);
-    write(&out, printed(counted));
+    write(to, &out, printed(counted));
 }
 
 // Whether a word is `ports`.
@@ -173,51 +178,49 @@ fn is_ports(word: &[u8]) -> bool {
 }
 
 // The start-up letter that the argument of this number gives, which is the last one.
-fn asked_by(ports: bool, at: usize) -> Asked
+fn asked_by(rt: &impl Env, ports: bool, at: usize) -> Asked
     requires { at ≤ 2 }
 {
-    let mut word = io::buffer();
-    let n = os::arg(at, &mut word);
-    let count = os::arg_count();
+    let mut word = [0u8; WORD_LENGTH];
+    let n = rt.arg(at, &mut word).unwrap_or(0);
+    let letter = bench_lens::letter_of(&word[..n]);
+    let understood = matches!(rt.arg(at + 1, &mut word), Err(FillError::NotPresent));
     Asked {
         ports,
-        letter: bench_lens::letter_of(&word[..n]),
-        understood: count <= at + 1,
+        letter,
+        understood,
     }
 }
 
 // [ports] [LETTER]
-fn all_asked() -> Asked {
-    let mut word = io::buffer();
-    let n = os::arg(1, &mut word);
+fn all_asked(rt: &impl Env) -> Asked {
+    let mut word = [0u8; WORD_LENGTH];
+    let n = rt.arg(1, &mut word).unwrap_or(0);
     if is_ports(&word[..n]) {
-        return asked_by(true, 2);
+        return asked_by(rt, true, 2);
     }
-    asked_by(false, 1)
+    asked_by(rt, false, 1)
 }
 
-fn main() {
-    let asked = all_asked();
+fn main(rt: HostRuntime) {
+    let asked = all_asked(&rt);
     if !asked.understood {
-        io::write_all(
-            STDERR_FILENO,
-            b"replay: takes the word ports, then a start-up letter, and no more: replay [ports] [LETTER]\n",
+        let _ = eprintln!(rt;
+            "replay: takes the word ports, then a start-up letter, and no more: replay [ports] [LETTER]"
         );
         return;
     }
     let begun = Follower::start(asked.letter, asked.ports);
     let verdict = begun.verdict;
     if let Verdict::Refused(_) = verdict {
-        io::write_all(
-            STDERR_FILENO,
-            b"replay: the start-up letter is none of I, M, B, b\n",
-        );
+        let _ = eprintln!(rt; "replay: the start-up letter is none of I, M, B, b");
         return;
     }
     let follower = begun.follower;
-    end(run_all(Desk {
+    let desk = Desk {
         follower,
         unwritten: 0,
         open: true,
-    }));
+    };
+    end(&rt, run_all(&mut rt.stdin(), &rt, desk));
 }
