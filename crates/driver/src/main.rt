@@ -14,6 +14,7 @@
 // input. Until a look has come back empty, it takes its input for one that waits.
 #![tactic(auto)]
 
+mod descriptor;
 mod ports;
 
 ghost use Rattle.std.specs.Prelude.{◌≡◌};
@@ -95,13 +96,10 @@ fn is_for_later(error: &io::Error) -> bool {
     (kind == ErrorKind::WouldBlock) | (kind == ErrorKind::Interrupted)
 }
 
-// One byte of an input, if there is one. An input that is not there has ended.
-fn look<I: Read>(input: &mut Option<I>) -> Seen {
-    let Some(reader) = input else {
-        return Seen::End;
-    };
+// One byte of an input, if there is one.
+fn look(input: &mut impl Read) -> Seen {
     let mut byte = [0u8; 1];
-    match reader.read(&mut byte) {
+    match input.read(&mut byte) {
         Ok(0) => Seen::End,
         Ok(_) => Seen::Byte(byte[0]),
         Err(error) => {
@@ -110,6 +108,14 @@ fn look<I: Read>(input: &mut Option<I>) -> Seen {
             }
             Seen::End
         }
+    }
+}
+
+// The same where the input may be none that could be opened, which has ended.
+fn look_waiting(waiting: &mut Option<impl Read>) -> Seen {
+    match waiting {
+        Some(input) => look(input),
+        None => Seen::End,
     }
 }
 
@@ -196,11 +202,11 @@ fn noted(desk: Desk, found: Seen) -> Desk {
 }
 
 // A turn: slots, then a look; where nothing is left to send and nothing has come, a look that waits.
-fn take_turn<I: Read, W: Read>(
+fn take_turn(
     rt: &(impl Print + Clock),
     desk: Desk,
-    input: &mut Option<I>,
-    waiting: &mut Option<W>,
+    input: &mut impl Read,
+    waiting: &mut Option<impl Read>,
 ) -> Desk {
     let lens = desk.lens;
     let line = lens.line;
@@ -218,18 +224,18 @@ fn take_turn<I: Read, W: Read>(
         return noted(paced(rt, after), found);
     }
     if let Seen::Nothing = found {
-        return noted(noted(after, found), look(waiting));
+        return noted(noted(after, found), look_waiting(waiting));
     }
     noted(after, found)
 }
 
 // A proved loop has to end, and nothing says that the input does: the turns count up to a number that no run
 // reaches.
-fn run<I: Read, W: Read>(
+fn run(
     rt: &(impl Print + Clock),
     desk: Desk,
-    input: &mut Option<I>,
-    waiting: &mut Option<W>,
+    input: &mut impl Read,
+    waiting: &mut Option<impl Read>,
 ) {
     let mut now = desk;
     for _ in 0..u64::MAX {
@@ -286,7 +292,6 @@ fn serve(rt: &(impl Input + Print + Eprint + Files + Clock), letter: u8) {
     let port = started.port;
     let line = started.line;
     let lens = Held { port, line };
-    let mut input = Some(rt.reader());
     // standard input once more, as a file whose reads wait
     let mut waiting = File::open(rt, "/dev/stdin").ok();
     let desk = Desk {
@@ -295,7 +300,7 @@ fn serve(rt: &(impl Input + Print + Eprint + Files + Clock), letter: u8) {
         since: 0,
         open: true,
     };
-    run(rt, desk, &mut input, &mut waiting);
+    run(rt, desk, &mut rt.reader(), &mut waiting);
 }
 
 fn main(rt: HostRuntime) {

@@ -8,28 +8,23 @@
 // most a tick after it came. A slot whose byte the line does not take is not run: that port's time stands
 // still, nothing of it is lost, and the other goes on. Where an input ends, its port goes on being sent to;
 // where both have ended, the program ends.
-//
-// Descriptors 3 and 4 are opened once more by their names in /dev/fd, since a program reaches a file by its name;
-// what is opened so does not wait either, and writes to a file's end.
 ghost use Rattle.std.specs.Prelude.{◌≤◌, ◌≡◌, length};
 ghost use Rattle.driver.specs.Ports.{box_in_place, Ran};
 ghost use Rattle.collector.specs.Collect.{line_after};
 ghost use Rattle.connectors.specs.Connectors.{side_of};
 
+use super::descriptor::Descriptor;
 use super::{Seen, is_for_later, look, pause, tell_letter};
 use connectors::{Connectors, Lines};
 use line::Line;
 use refusal::Verdict;
-use std::fs::{File, OpenOptions};
+use std::io;
 use std::io::{Eprint, Input, Print, Read, Write};
-use std::os::fd::OwnedFd;
-use std::os::unix::net::UnixStream;
-use std::rt::{Clock, Files};
-use std::{fs, io};
+use std::rt::Clock;
 
-const EXTERNAL_INPUT: &str = "/dev/fd/3";
+const EXTERNAL_INPUT: i32 = 3;
 
-const EXTERNAL_OUTPUT: &str = "/dev/fd/4";
+const EXTERNAL_OUTPUT: i32 = 4;
 
 // A 960th of a second, in nanoseconds, and the most slots that a port runs in it.
 const TICK: u64 = 1041667;
@@ -45,11 +40,11 @@ struct Plug {
     open: bool,
 }
 
-// Where a port's bytes come from and go to. One that is not there has ended, or is gone.
+// Where a port's bytes come from and go to.
 #[derive(Drop)]
 struct Ends<I, O> {
-    input: Option<I>,
-    output: Option<O>,
+    input: I,
+    output: O,
 }
 
 // The box, and one of its ports in a tick.
@@ -99,7 +94,7 @@ fn received(served: Served, byte: u8) -> Served
 }
 
 // Writes bytes as far as the line takes them now.
-fn put<O: Write>(output: &mut Option<O>, bytes: &[u8]) -> Took
+fn put(output: &mut impl Write, bytes: &[u8]) -> Took
     ensures { result.count ≤ length bytes.now }
 {
     if bytes.len() == 0 {
@@ -108,13 +103,7 @@ fn put<O: Write>(output: &mut Option<O>, bytes: &[u8]) -> Took
             gone: false,
         };
     }
-    let Some(writer) = output else {
-        return Took {
-            count: 0,
-            gone: true,
-        };
-    };
-    match writer.write(bytes) {
+    match output.write(bytes) {
         Ok(count) => Took { count, gone: false },
         Err(error) => Took {
             count: 0,
@@ -125,7 +114,7 @@ fn put<O: Write>(output: &mut Option<O>, bytes: &[u8]) -> Took
 
 // Runs as many slots of the port as a lent buffer has bytes, and writes what they send. Where the line takes
 // less, the slots are run anew from the box before them, as many as it took.
-fn sent<O: Write>(output: &mut Option<O>, served: Served, out: &mut [u8]) -> Served
+fn sent(output: &mut impl Write, served: Served, out: &mut [u8]) -> Served
     ensures { Ran served.connectors served.plug.number (length out.old) result.connectors }
 {
     let mut plug = served.plug;
@@ -154,7 +143,7 @@ fn sent<O: Write>(output: &mut Option<O>, served: Served, out: &mut [u8]) -> Ser
 }
 
 // So many slots of the port, if it has as much to send.
-fn slots<O: Write>(output: &mut Option<O>, served: Served, count: usize) -> Served
+fn slots(output: &mut impl Write, served: Served, count: usize) -> Served
     requires { count ≤ 24 }
 {
     let mut out = [0u8; MOST];
@@ -162,7 +151,7 @@ fn slots<O: Write>(output: &mut Option<O>, served: Served, count: usize) -> Serv
 }
 
 // A look at the port's input; one that has ended has nothing.
-fn looked<I: Read>(input: &mut Option<I>, plug: Plug) -> Seen {
+fn looked(input: &mut impl Read, plug: Plug) -> Seen {
     if !plug.open {
         return Seen::Nothing;
     }
@@ -170,7 +159,7 @@ fn looked<I: Read>(input: &mut Option<I>, plug: Plug) -> Seen {
 }
 
 // No byte has come: the rest of the port's slots run, and its tick is over.
-fn finished<O: Write>(output: &mut Option<O>, served: Served, rest: usize) -> Served
+fn finished(output: &mut impl Write, served: Served, rest: usize) -> Served
     requires { rest ≤ 24 }
 {
     let mut after = slots(output, served, rest);
@@ -242,9 +231,8 @@ fn take_turns<I: Read, O: Write>(
         plug,
         goes_on: true,
     };
-    let mut left = slots_a_tick(rate_at(connectors, plug.number));
-    while 0 < left {
-        left -= 1;
+    let count = slots_a_tick(rate_at(connectors, plug.number));
+    for left in (0..count).rev() {
         now = take_turn(ends, now, left);
         if !now.goes_on {
             return now;
@@ -291,44 +279,8 @@ fn run<I: Read, O: Write, J: Read, P: Write>(
     }
 }
 
-// A file whose reads and writes fail where they would wait. That is a mode of what the file is open on, which its
-// handles share; std sets it at the type of a stream.
-fn not_waiting(file: File) -> io::Result<File> {
-    let handle = OwnedFd::from(file.try_clone()?);
-    UnixStream::from(handle).set_nonblocking(true)?;
-    Ok(file)
-}
-
-// The external connector's input, opened once more.
-fn external_input(rt: &impl Files<File = File>) -> io::Result<File> {
-    not_waiting(File::open(rt, EXTERNAL_INPUT)?)
-}
-
-// Its output, opened once more.
-fn external_output(rt: &impl Files<File = File>) -> io::Result<File> {
-    not_waiting(OpenOptions::new().append(true).open(rt, EXTERNAL_OUTPUT)?)
-}
-
-// The external connector's ends. Both are looked for before one is opened, since a file takes the lowest number
-// that is free, which may be that of a descriptor that is not there.
-fn external_ends(rt: &impl Files<File = File>) -> Ends<File, File> {
-    let is_input = fs::exists(rt, EXTERNAL_INPUT).unwrap_or(false);
-    let is_output = fs::exists(rt, EXTERNAL_OUTPUT).unwrap_or(false);
-    let input = if is_input {
-        external_input(rt).ok()
-    } else {
-        None
-    };
-    let output = if is_output {
-        external_output(rt).ok()
-    } else {
-        None
-    };
-    Ends { input, output }
-}
-
 // Both ports, from a start with this letter.
-pub(crate) fn serve(rt: &(impl Input + Print + Eprint + Files<File = File> + Clock), letter: u8) {
+pub(crate) fn serve(rt: &(impl Input + Print + Eprint + Clock), letter: u8) {
     let measurement = bench_lens::bench_measurement();
     let blank = Lines {
         camera: Line::blank(),
@@ -366,8 +318,16 @@ pub(crate) fn serve(rt: &(impl Input + Print + Eprint + Files<File = File> + Clo
         external,
     };
     let mut camera_ends = Ends {
-        input: Some(rt.reader()),
-        output: Some(io::writer(rt)),
+        input: rt.reader(),
+        output: io::writer(rt),
     };
-    run(rt, desk, &mut camera_ends, &mut external_ends(rt));
+    let mut external_ends = Ends {
+        input: Descriptor {
+            number: EXTERNAL_INPUT,
+        },
+        output: Descriptor {
+            number: EXTERNAL_OUTPUT,
+        },
+    };
+    run(rt, desk, &mut camera_ends, &mut external_ends);
 }
