@@ -1,7 +1,7 @@
 -- Collecting in place on a port of the box is what the box's receive does: as on one port (`in_place_lem`). Assumes nothing.
 use Prim.Native.Nat.{ℕ}
 use mathlib.Core.Bool.{true, false}
-use mathlib.Core.Path.{◌≡◌, refl, sym, ap, subst, ◌∙◌}
+use mathlib.Core.Path.{◌≡◌, refl, sym, ap, ◌∙◌}
 use Rattle.laws.proofs.Tests.{at, told, cond_yes, cond_no}
 use Rattle.line.specs.declared.Line.{Line}
 use Rattle.line.specs.Line.{valid_line}
