@@ -1,15 +1,15 @@
 -- What OC, OD and OH do is what is promised: each shape of a line by computing it. Assumes nothing.
 use Prim.Native.Nat.{ℕ, ◌≤◌}
-use mathlib.Core.Bool.{Bool, true, false, ◌&&◌, false≢true}
+use mathlib.Core.Bool.{true, false, false≢true}
 use mathlib.Core.List.{List, [], ◌∷◌}
 use mathlib.Core.Logic.{◌≢◌, ◌↔◌, ◌⊎◌, inl, inr}
 use mathlib.Core.Path.{◌≡◌, refl, sym, ap, subst, ◌∙◌}
 use native.Mathlib.Omega.{arith}
-use borrow.Author.Tests.{eqb-true, eqb-false, eq-eqb, ne_eqb, le-leb, leb-true, leb-false}
+use borrow.Author.Tests.{eqb-true, eqb-false, le-leb, leb-true, leb-false}
 use lib.Dec.{leb, eqb}
 use lib.ListN.{length, take}
 use Rattle.laws.specs.Every.{every}
-use Rattle.laws.proofs.Tests.{told, cond_yes, cond_no, and_left, and_right, never}
+use Rattle.laws.proofs.Tests.{told, cond_yes, cond_no, and_left}
 use Rattle.laws.proofs.OverLaws.{take_over}
 use Rattle.note.specs.Note.{longest_note, note_ok}
 use Rattle.line.specs.Line.{line_length, valid_line}

@@ -1,5 +1,6 @@
 // The note of a port, which its records carry behind the serial: OC opens an empty one, OD sets it whole, OH empties and closes it.
 #![tactic(auto)]
+
 ghost use Rattle.std.specs.Prelude.{◌≡◌, ◌≤◌, length};
 ghost use Rattle.note.specs.Note.{longest_note};
 ghost use Rattle.append.specs.Append.{holding, did, left, set_by, after_o, noted_by};

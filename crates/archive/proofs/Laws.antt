@@ -20,7 +20,6 @@ use Rattle.codec.proofs.Fields.{tagged_number}
 use Rattle.pointed.specs.Pointed.{point}
 use Rattle.frame.specs.Message.{read_of, message_of, checked, then_write, then_left, write_of, left_by, WritesMessage, Moves}
 use Rattle.frame.specs.declared.Wrote.{Wrote}
-use Rattle.frame.specs.declared.Wrote.TheVariants as wrote
 use Rattle.frame.proofs.Exactly.{reads_only}
 use Rattle.record.specs.Record.{top_distance, top_pupil, figures_lowest, record_lowest}
 use Rattle.record.specs.Forms.{back_by, text_form, with_serial}

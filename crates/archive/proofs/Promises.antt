@@ -18,7 +18,6 @@ use Rattle.codec.proofs.Ranges.{row, rows}
 use Rattle.codec.proofs.Texts.{text_long}
 use Rattle.codec.specs.Ranges.{LowestBy}
 use Rattle.frame.specs.Message.{read_of, message_of}
-use Rattle.frame.specs.declared.Wrote.TheVariants as wrote
 use Rattle.frame.specs.Refuses.{ReadWhen}
 use Rattle.frame.proofs.Exactly.{exactly, reads_written, messages_long, framed_long}
 use Rattle.frame.proofs.Laid.{laid}

@@ -11,7 +11,6 @@ use Rattle.frame.specs.Laid.{Laid}
 use Rattle.frame.specs.Message.{read_of, messages_of}
 use Rattle.frame.specs.Refuses.{ReadWhen}
 use Rattle.frame.specs.declared.Wrote.{Wrote}
-use Rattle.frame.specs.declared.Wrote.TheVariants as wrote
 use Rattle.pupil.specs.Pupil.{plus_text, minus_text}
 use Rattle.record.specs.Record.{record_lowest}
 use Rattle.record.specs.Forms.{text_form, with_serial}

@@ -1,6 +1,7 @@
 // Archives of old zoom firmware: D lines without S and with the zoom as z and x.xx, moved to the present form and back.
 // There is no checksum on either line. Each way is a reader, then a writer.
 #![tactic(auto)]
+
 ghost use Rattle.std.specs.Prelude.{◌≡◌, ◌≤◌, length};
 ghost use Rattle.laws.specs.Over.{over};
 ghost use Rattle.codec.specs.Codec.{field_says};

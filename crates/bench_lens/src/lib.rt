@@ -1,6 +1,7 @@
 // The bench lens: the settings and the measurement that document 01 gives the session program, and the
 // start-up letter that a program is given.
 #![tactic(auto)]
+
 ghost use Rattle.bench_lens.specs.Clauses.{LetterOf, BenchSettings, BenchMeasurement};
 
 use fixed::{Fixed, Settings};

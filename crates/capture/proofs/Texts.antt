@@ -23,7 +23,7 @@ use Rattle.capture.specs.Words.{space, spaces}
 use Rattle.capture.specs.Numbers.{hex_value, nine_digits, digits_of, whole_by, whole_of}
 use Rattle.capture.specs.Capture.{is_letter}
 use Rattle.capture.specs.Promises.{Hex, Number, SignedNumber, plain, minus, IsLetter}
-use Rattle.capture.specs.declared.Whole.TheVariants.{Value, Wrong}
+use Rattle.capture.specs.declared.Whole.TheVariants.{Value}
 
 -- ---- digits
 

@@ -1,5 +1,6 @@
 // The text of a capture: the event that a line tells, or that it is of other form.
 #![tactic(auto)]
+
 ghost use Rattle.std.specs.Prelude.{◌≡◌, ◌≤◌};
 ghost use Rattle.sign.specs.Sign.{signed_of};
 ghost use Rattle.capture.specs.Words.{StartsWord, word, spaces, sole};

@@ -1,6 +1,7 @@
 // A field of a message: a printer, a parser and one law between them, and how fields make a message.
 // The code here serves every field that is a text or a number behind its tag.
 #![tactic(auto)]
+
 ghost use Rattle.codec.specs.Clauses.{IsText, IsBehind, PutItem, PutTagged, ReadTagged};
 
 use digits::Field;

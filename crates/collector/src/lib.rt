@@ -1,6 +1,7 @@
 // The driver's line collector: what a received byte makes of it and what is answered, by value, and one
 // thin function over them that updates it in place.
 #![tactic(auto)]
+
 ghost use Rattle.collector.specs.Clauses.{LineAfter, Answered, Collect, Lend};
 
 use line::Line;

@@ -14,7 +14,7 @@ use Rattle.refusal.proofs.Promises.{numbers}
 use Rattle.frame.specs.declared.Wrote.{Wrote}
 use Rattle.frame.specs.declared.Wrote.TheVariants as wrote
 use Rattle.demand2.proofs.Proved.{demand2}
-use Rattle.cutter.specs.Cutter.{invalid, ended, cut_of, answer_by, left_by_said, then_read}
+use Rattle.cutter.specs.Cutter.{ended, cut_of, answer_by, left_by_said, then_read}
 use Rattle.cutter.proofs.Promises.{promised as cuts}
 use Rattle.cut_reader.proofs.Promises.{promised as cut}
 use Rattle.recorder.specs.Recorder.{reading_of, told_as, take_by, take_of, send_of}

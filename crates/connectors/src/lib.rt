@@ -1,6 +1,7 @@
 // Two connectors over one lens: the fixed data and the start-up letter are shared, all else is each port's own. A
 // port of the box is the port of crate port over the shared settings.
 #![tactic(auto)]
+
 ghost use Rattle.std.specs.Prelude.{◌≡◌};
 ghost use Rattle.connectors.specs.Connectors.{side_of, port_with, own_of, first_refused, started_by};
 ghost use Rattle.connectors.specs.Clauses.{ConnectorsPortAt, ConnectorsWithPort, ConnectorsUnstarted, ConnectorsStart, ConnectorsReceive, ConnectorsSlot, ConnectorsMeasure, ConnectorsFill};

@@ -1,6 +1,7 @@
 // The readers by name over a cut stream: 9 for a message longer than a cutter holds, else what the reader
 // answers. A message that lies whole in its piece is read there; only one that began in an earlier piece is joined.
 #![tactic(auto)]
+
 ghost use Rattle.cut_reader.specs.Clauses.{JudgeText, JudgePacked, JudgeFixed, ReadText, ReadPacked, ReadFixed};
 
 use cutter::{CUTTER_LENGTH, Cutter};

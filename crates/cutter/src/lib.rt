@@ -1,5 +1,6 @@
 // Cuts the camera side's stream, which comes in arbitrary pieces, into messages: each ends at its LF CR pair.
 #![tactic(auto)]
+
 ghost use Rattle.std.specs.Prelude.{◌≤◌, ◌≡◌, length};
 ghost use Rattle.cutter.specs.Cutter.{after_lf, lf_before, quiet, BehindQuiet, PutsMessage};
 ghost use Rattle.cutter.specs.Clauses.{NextEnd, CutterFresh, CutterIsValid, CutterEndIn, CutterHeld, CutterHold, CutterCut};

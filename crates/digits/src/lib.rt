@@ -2,6 +2,7 @@
 // One reader serves both, over the base and what a digit is sent on top of. The writer of decimal digits
 // subtracts powers of ten, since the box has no divider.
 #![tactic(auto)]
+
 ghost use Rattle.std.specs.Prelude.{◌≡◌, suc, ◌+◌, ◌*◌, ◌/◌, ◌%◌, ◌^◌, ◌<◌, ◌≤◌, length};
 ghost use Rattle.laws.specs.Over.{over};
 ghost use Rattle.digits.specs.Digits.{decimal, read_field};

@@ -2,6 +2,7 @@
 // subtracts powers of ten instead; this one promises the same.
 // Four digits and eight are made at once, in a word whose bytes are the digits, first digit lowest, and stored as one; others two at a time.
 #![tactic(auto)]
+
 ghost use Rattle.std.specs.Prelude.{◌≡◌, ◌+◌, ◌≤◌, ◌<◌, length};
 ghost use Rattle.laws.specs.Lowest.{lowest_first};
 ghost use Rattle.laws.specs.Over.{over};

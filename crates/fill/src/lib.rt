@@ -1,5 +1,6 @@
 // The driver's call with a lent buffer: slots run until it is full or one is idle.
 #![tactic(auto)]
+
 ghost use Rattle.std.specs.Prelude.{◌≡◌, true, ◌≤◌, length};
 ghost use Rattle.port.specs.Port.{valid_port};
 ghost use Rattle.fill.specs.Fill.{Goes, least_of};

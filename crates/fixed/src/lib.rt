@@ -1,5 +1,6 @@
 // The fixed data and the settings by value: their items, and what may be sent.
 #![tactic(auto)]
+
 ghost use Rattle.std.specs.Prelude.{◌≡◌, eqb};
 ghost use Rattle.codec.specs.Codec.{text_ok};
 ghost use Rattle.fixed.specs.Fixed.{blur_ok, lens_lowest, fixed_lowest};

@@ -1,5 +1,6 @@
 // A capture followed as its text comes in, in any pieces: each line is run where it ends, on the port that it names.
 #![tactic(auto)]
+
 ghost use Rattle.std.specs.Prelude.{◌≡◌, true, ◌++◌};
 ghost use Rattle.runs.specs.Runs.{event_at};
 ghost use Rattle.follow.specs.Follow.{blank_text, valid_text, held_in, joined_text, followed_by};

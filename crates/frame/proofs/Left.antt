@@ -1,6 +1,6 @@
 -- What a writer leaves: nothing new where it refuses, else the bytes at the start and the rest as it was. First of anything that has an answer
 -- and then writes its contents as n bytes, so of a message of any codec that prints its width. Assumes nothing.
-use Prim.Native.Nat.{ℕ, ◌+◌}
+use Prim.Native.Nat.{ℕ}
 use mathlib.Core.List.{List, ◌++◌}
 use mathlib.Core.Bool.{Bool}
 use mathlib.Core.Path.{◌≡◌, refl, sym, ap, ◌∙◌}

@@ -1,6 +1,7 @@
 // The checksum, and what stands behind the contents of a message: two checksum characters where the
 // mode is on, then LF CR.
 #![tactic(auto)]
+
 ghost use Rattle.std.specs.Prelude.{◌≡◌, ◌+◌, ◌≤◌, eqb, length};
 ghost use Rattle.frame.specs.Frame.{xor_from, ending_width, is_ended, sums};
 ghost use Rattle.frame.specs.Clauses.{SumOf, EndingWidth, RoomFor, PutEnding, Open};

@@ -1,6 +1,7 @@
 // What a reader of a record finds, group by group, the same in both forms: the fields of a group, or
 // the first wrong one of them.
 #![tactic(auto)]
+
 ghost use Rattle.gather.specs.Clauses.{Gather, WithSerial};
 
 use record::{Figures, Record, RecordRead};

@@ -3,7 +3,6 @@ use Prim.Native.Nat.{ℕ}
 use mathlib.Core.Bool.{true, false}
 use mathlib.Core.List.{List}
 use mathlib.Core.Path.{◌≡◌, refl, ap}
-use Rattle.refusal.specs.Answer.{Answer}
 use Rattle.frame.specs.Message.{afterwards}
 use Rattle.cutter.specs.Cutter.{Said, invalid, nothing, ended, cut_of, answer_by, left_by_said}
 use Rattle.cutter.specs.declared.Cutter.{Cutter}

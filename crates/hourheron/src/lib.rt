@@ -2,6 +2,7 @@
 // numbers and byte slices; the line collector that the host keeps; and for the camera side the cutter and the
 // recorder, by value. No rule of the paper stands here.
 #![tactic(auto)]
+
 ghost use Rattle.std.specs.Prelude.{true, ◌≡◌};
 ghost use Rattle.refusal.specs.Answer.{accepted, refused};
 ghost use Rattle.frame.specs.Message.{room_for};
@@ -273,11 +274,7 @@ pub fn heron_packed_to_text(message: &[u8], checksum: bool, out: &mut [u8]) -> A
 }
 
 // Does the same by way of the record.
-pub fn heron_packed_to_text_by_record(
-    message: &[u8],
-    checksum: bool,
-    out: &mut [u8],
-) -> Answer
+pub fn heron_packed_to_text_by_record(message: &[u8], checksum: bool, out: &mut [u8]) -> Answer
     ensures { HeronPackedToTextByRecord message.now checksum out.old result out.new }
 {
     answer_to(transfer::by_record(message, checksum, out))
@@ -533,11 +530,7 @@ fn lay_taken(taken: Recorded, out: &mut [u8]) -> Answer
 }
 
 // Takes a piece up to the first end of a message, which is read as the recorder reads it, or all of it.
-pub fn heron_recorder_take_value(
-    recorder: Recorder,
-    piece: &[u8],
-    out: &mut [u8],
-) -> TakeValue
+pub fn heron_recorder_take_value(recorder: Recorder, piece: &[u8], out: &mut [u8]) -> TakeValue
     ensures { HeronRecorderTakeValue recorder piece.now out.old result out.new }
 {
     let taken = recorder.take(piece);

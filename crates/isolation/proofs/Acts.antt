@@ -1,9 +1,8 @@
 -- What a call makes of a port's settings: they stay, or the line that waited was acted on and turned the letter. Assumes nothing.
 use Prim.Native.Nat.{ℕ, zero, suc, ◌+◌}
-use mathlib.Core.Bool.{Bool, true, false, true≢false, ◌&&◌, cond}
+use mathlib.Core.Bool.{true, false, true≢false, ◌&&◌, cond}
 use mathlib.Core.List.{List, [], ◌∷◌}
-use mathlib.Core.Option.{Option, none, some}
-use mathlib.Core.Path.{◌≡◌, refl, sym, ap, ap₂, subst, ◌∙◌}
+use mathlib.Core.Path.{◌≡◌, refl, sym, ap, ap₂, ◌∙◌}
 use lib.Dec.{ltb, eqb}
 use Rattle.laws.proofs.Tests.{told, by, cond_yes, cond_no}
 use Rattle.machine.specs.Machine.{listed}
@@ -17,7 +16,6 @@ use Rattle.state.specs.declared.Source.{Source}
 use Rattle.state.specs.declared.State.{State}
 use Rattle.state.specs.declared.Waiting.{Waiting}
 use Rattle.rules.specs.Does.{does, counts, continuous}
-use Rattle.rules.specs.Lens.{Turn}
 use Rattle.port.specs.declared.Handed.{Handed}
 use Rattle.port.specs.declared.Port.{Port}
 use Rattle.port.specs.declared.Received.{Received}
@@ -31,7 +29,7 @@ use Rattle.fill.specs.declared.Filled.{Filled}
 use Rattle.walk.specs.View.{waits_of}
 use Rattle.walk.specs.Calls.{Held}
 use Rattle.walk.specs.Calls as one
-use Rattle.walk.specs.InCalls.{waits_in, acted_by}
+use Rattle.walk.specs.InCalls.{waits_in}
 use Rattle.isolation.specs.Turns.{turns_in, turned_by}
 use Rattle.isolation.specs.Calls.{Asked, receive, slots_once, measure, fill, asks, turn_on, turn_by}
 use Rattle.isolation.proofs.Turns.{settings_after}

@@ -1,24 +1,23 @@
 -- Two ports that differ in the letter of their settings, and in the message under way where it answers N, stay so with every slot, and send the same but where a
 -- reply to N hangs on the letter. Assumes nothing.
-use Prim.Native.Nat.{ℕ, zero, suc, ◌+◌, ◌≤◌, ◌<◌}
+use Prim.Native.Nat.{ℕ, ◌+◌, ◌≤◌, ◌<◌}
 use mathlib.Core.Bool.{Bool, true, false, ◌&&◌, cond}
-use mathlib.Core.List.{List, [], ◌∷◌, ◌++◌}
-use mathlib.Core.Logic.{◌⊎◌, inl, inr, ⊎_elim, ◌≢◌}
+use mathlib.Core.List.{List, [], ◌∷◌}
+use mathlib.Core.Logic.{◌⊎◌, inl, inr, ⊎_elim}
 use mathlib.Core.Option.{Option, none, some}
-use mathlib.Core.Path.{◌≡◌, refl, sym, ap, ap₂, subst, ◌∙◌}
+use mathlib.Core.Path.{◌≡◌, refl, sym, ap, subst, ◌∙◌}
 use native.Mathlib.Omega.{arith}
 use borrow.Author.Tests.{ltb-true, le-leb, leb-true}
 use lib.Dec.{ltb, leb, eqb}
 use lib.ListN.{length, get_or, get_or-append}
 use Rattle.laws.specs.Over.{over}
-use Rattle.laws.proofs.Tests.{told, cond_yes, cond_no, and_left, and_right, by}
+use Rattle.laws.proofs.Tests.{told, cond_yes, and_left, and_right}
 use Rattle.fixed.specs.Form.{fixed_form}
 use Rattle.fixed.specs.declared.Fixed.{Fixed}
 use Rattle.fixed.specs.declared.Settings.{Settings}
 use Rattle.line.specs.declared.Line.{Line}
 use Rattle.line.specs.Line.{valid_line}
 use Rattle.line.specs.Command.{command_of}
-use Rattle.line.specs.declared.Command.TheVariants.{N}
 use Rattle.state.specs.declared.Last.{Last}
 use Rattle.state.specs.declared.Last.TheVariants as last
 use Rattle.state.specs.declared.Message.{Message}
@@ -28,13 +27,12 @@ use Rattle.state.specs.declared.Waiting.{Waiting}
 use Rattle.state.specs.State.{message_length, zeros, unsent, valid_message, valid_source}
 use Rattle.state.proofs.Laws.{zeros_long}
 use Rattle.rules.specs.Does.{with_modes, rate_moved, fixed_with, does, counts, continuous, record_message}
-use Rattle.rules.specs.Lens.{Turn, turns_to}
+use Rattle.rules.specs.Lens.{Turn}
 use Rattle.rules.specs.Unread.{lettered}
 use Rattle.rules.proofs.Unread.{unread}
 use Rattle.rules.proofs.Lengths.{framed_some, record_some, record_at_most}
 use Rattle.rules.proofs.Kept.{does_valid, reply_at_most, ended_valid}
 use Rattle.port.specs.declared.Port.{Port}
-use Rattle.port.specs.declared.Sent.{Sent}
 use Rattle.port.specs.declared.Sent.TheVariants as sent
 use Rattle.port.specs.declared.Slotted.{Slotted}
 use Rattle.port.specs.Port.{valid_port, moved_if, send_from, begun_with, begins, nobody, begins_record, rest_of, reply_last, freed, answers, act_of, is_reply, choose_of, slot_of}

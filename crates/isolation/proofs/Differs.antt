@@ -1,8 +1,8 @@
 -- The two runs, of which the checker runs the machine. Assumes nothing.
 use Prim.Native.Nat.{ℕ}
-use mathlib.Core.Bool.{Bool, true, false, true≢false, cond}
+use mathlib.Core.Bool.{Bool, false, true≢false, cond}
 use mathlib.Core.List.{List, [], ◌∷◌, ◌++◌, append-nil, append_assoc}
-use mathlib.Core.Logic.{◌≢◌, inl, inr}
+use mathlib.Core.Logic.{◌≢◌}
 use mathlib.Core.Option.{none, some}
 use mathlib.Core.Path.{◌≡◌, refl, sym, ap, ap₂, subst, ◌∙◌}
 use native.Mathlib.Omega.{arith}
@@ -32,7 +32,7 @@ use Rattle.state.specs.declared.Source.{Source}
 use Rattle.state.specs.declared.State.{State as RunState}
 use Rattle.state.specs.declared.State.TheVariants.{Running}
 use Rattle.rules.specs.Does.{relettered, replies, silent, runs, is_n, readies, does_in, does, counts_in, counts, is_on}
-use Rattle.rules.specs.Lens.{by-y, elsewhere, lens, greeting}
+use Rattle.rules.specs.Lens.{by-y, elsewhere, lens}
 use Rattle.port.specs.Port.{unit_of, started_port}
 use Rattle.walk.specs.View.{view}
 use Rattle.walk.specs.Calls.{Held, view_of, events_all}

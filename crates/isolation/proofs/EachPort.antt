@@ -20,7 +20,6 @@ use Rattle.rules.specs.Tight.{bench}
 use Rattle.rules.proofs.Tight.{tight}
 use Rattle.rules.proofs.Valid.{valid_told}
 use Rattle.port.specs.declared.Port.{Port}
-use Rattle.port.specs.declared.Sent.{Sent}
 use Rattle.port.specs.Port.{receive_of, unit_of, start_verdict, started_port, start_of}
 use Rattle.port.proofs.Promises.{start_verdict_lem, leaves_new}
 use Rattle.port.proofs.Cases.{good_settings}
@@ -28,7 +27,7 @@ use Rattle.fill.specs.Fill.{fill_of, fill_leaves}
 use Rattle.walk.specs.View.{bytes_of}
 use Rattle.walk.specs.Calls.{Held, view_of, events_all, begun, FromStart}
 use Rattle.walk.specs.Calls as one
-use Rattle.walk.specs.InCalls.{slots_run, by_slots, acted_all, waits_in, taken_all, Acted, StaysOn, Recorded, WholeMessages}
+use Rattle.walk.specs.InCalls.{slots_run, by_slots, acted_all, waits_in, Acted, WholeMessages}
 use Rattle.walk.proofs.Calls.{of_the_port}
 use Rattle.walk.proofs.InCalls.{in_calls}
 use Rattle.walk.proofs.Entries as port-walk

@@ -1,20 +1,18 @@
 -- Two runs with the same calls of one port's own: that port's answers are the same, or alike. Assumes nothing.
 use Prim.Native.Nat.{ℕ, zero, suc, ◌+◌}
-use mathlib.Core.Bool.{Bool, true, false, ◌&&◌, cond}
+use mathlib.Core.Bool.{Bool, true, ◌&&◌, cond}
 use mathlib.Core.List.{List, [], ◌∷◌, ◌++◌, map}
 use mathlib.Core.Logic.{◌⊎◌, inl, inr, ⊎_elim}
 use mathlib.Core.Option.{Option, none, some}
 use mathlib.Core.Path.{◌≡◌, refl, sym, ap, ap₂, subst, ◌∙◌}
 use lib.Dec.{eqb}
 use lib.ListN.{length, length-append}
-use Rattle.laws.proofs.Tests.{told, cond_yes, cond_no, and_left}
+use Rattle.laws.proofs.Tests.{told, and_left}
 use Rattle.refusal.specs.Answer.{is_done}
 use Rattle.refusal.specs.declared.Refusal.{Refusal}
-use Rattle.refusal.specs.declared.Refusal.TheVariants as refusal
 use Rattle.refusal.specs.declared.Verdict.{Verdict}
 use Rattle.refusal.specs.declared.Verdict.TheVariants.{Done, Refused}
 use Rattle.fixed.specs.Fixed.{settings_lowest}
-use Rattle.fixed.specs.declared.Settings.{Settings}
 use Rattle.units.specs.Measurement.{measurement_verdict}
 use Rattle.units.specs.declared.Measurement.{Measurement}
 use Rattle.line.specs.declared.Line.{Line}
@@ -23,7 +21,7 @@ use Rattle.state.specs.declared.Message.{Message}
 use Rattle.state.specs.declared.Source.{Source}
 use Rattle.state.specs.State.{valid_modes, valid_source}
 use Rattle.rules.specs.Does.{lettered_with}
-use Rattle.rules.specs.Lens.{Turn, turns_to, turned}
+use Rattle.rules.specs.Lens.{Turn, turned}
 use Rattle.rules.specs.Unread.{lettered}
 use Rattle.rules.proofs.Kept.{turned_same}
 use Rattle.port.specs.declared.Handed.{Handed}
@@ -40,14 +38,13 @@ use Rattle.walk.specs.View.{bytes_of}
 use Rattle.walk.specs.Calls.{Held}
 use Rattle.walk.specs.Calls as one
 use Rattle.connectors.specs.declared.Side.{Side}
-use Rattle.connectors.specs.declared.Named.{Named}
 use Rattle.connectors.specs.Connectors.{side_of}
 use Rattle.isolation.specs.Turns.{turned_by}
 use Rattle.isolation.specs.Calls.{Both, held_at, is_at, Asked, receive, slots_once, measure, fill, asks, Call, restart, on, after, after_all, own_calls, bytes_at}
-use Rattle.isolation.specs.Answers.{as_long, slots_filled, Answer, started, answered, answers_at, Told, with_line_lem, with_count, alone, told_by, bytes_of_all, answer_bytes, all_bytes}
-use Rattle.isolation.specs.Isolated.{BothToN, AlikePort, AlikeSlots, SentToN, AlikeHeld, AllAlike, no_slot, next_slot, AlikeAnswer, on_start, on_byte_lem, on_slot_lem, on_measurement, on_fill, AlikeAnswers, no_more, and_next, Isolated}
+use Rattle.isolation.specs.Answers.{as_long, slots_filled, Answer, answered, answers_at, Told, with_line_lem, with_count, alone, told_by, bytes_of_all, answer_bytes, all_bytes}
+use Rattle.isolation.specs.Isolated.{BothToN, AlikePort, AlikeSlots, AlikeHeld, AllAlike, no_slot, next_slot, AlikeAnswer, on_start, on_byte_lem, on_slot_lem, on_measurement, on_fill, AlikeAnswers, no_more, and_next, Isolated}
 use Rattle.isolation.proofs.Sees.{settled_as}
-use Rattle.isolation.proofs.TwoRuns.{turn_in, Allowed, Pairwise, none_left, and_more, Kept, two_runs}
+use Rattle.isolation.proofs.TwoRuns.{Allowed, Pairwise, none_left, and_more, Kept, two_runs}
 use Rattle.isolation.proofs.Same.{words, same, same_port}
 use Rattle.isolation.proofs.Alike.{cond_alike, other, valid_alike, as_other, slot_alike}
 

@@ -1,7 +1,7 @@
 -- Two replies to N, for the same fixed data with two letters: they are as long, and equal but where the letter and the checksum stand. Assumes nothing.
-use Prim.Native.Nat.{ℕ, zero, suc, ◌+◌, ◌-◌, ◌<◌, ◌≤◌}
+use Prim.Native.Nat.{ℕ, zero, suc, ◌+◌, ◌-◌, ◌<◌}
 use mathlib.Core.Bool.{Bool, true, false}
-use mathlib.Core.List.{List, [], ◌∷◌, ◌++◌, append-nil, append_assoc}
+use mathlib.Core.List.{List, [], ◌∷◌, ◌++◌, append_assoc}
 use mathlib.Core.Logic.{◌⊎◌, inl, inr, ⊎_elim}
 use mathlib.Core.Path.{◌≡◌, refl, sym, ap, ◌∙◌}
 use native.Mathlib.Omega.{arith}
@@ -12,9 +12,9 @@ use borrow.Author.Tests.{ltb-true, ltb-false}
 use Rattle.laws.proofs.Tests.{told}
 use Rattle.digits.specs.Digits.{digits}
 use Rattle.digits.proofs.Laws.{length_digits}
-use Rattle.frame.specs.Frame.{ending, framed}
+use Rattle.frame.specs.Frame.{ending}
 use Rattle.frame.proofs.Exactly.{framed_long}
-use Rattle.fixed.specs.Form.{serial, owner, lens_items, version, fixed_length, fixed_form}
+use Rattle.fixed.specs.Form.{serial, owner, lens_items, version, fixed_form}
 use Rattle.fixed.specs.declared.Fixed.{Fixed}
 use Rattle.state.specs.declared.Source.{Source}
 use Rattle.state.specs.State.{valid_source}

@@ -1,15 +1,13 @@
 -- Where the other port turns the letter in neither run, this port's answers and all that it is are the same. Assumes nothing.
-use Prim.Native.Nat.{ℕ}
-use mathlib.Core.Bool.{true, false, cond}
+use mathlib.Core.Bool.{cond}
 use mathlib.Core.List.{List, [], ◌∷◌, ◌++◌}
-use mathlib.Core.Logic.{◌⊎◌, inl, inr}
+use mathlib.Core.Logic.{inl, inr}
 use mathlib.Core.Option.{Option, none, some}
 use mathlib.Core.Path.{◌≡◌, refl, sym, ap, ap₂, ◌∙◌}
 use native.Mathlib.Omega.{arith}
 use Rattle.laws.proofs.Tests.{cond_yes, cond_no, never}
 use Rattle.laws.specs.Member.{◌∈◌}
 use Rattle.machine.specs.Machine.{listed}
-use Rattle.refusal.specs.declared.Verdict.{Verdict}
 use Rattle.line.specs.declared.Line.{Line}
 use Rattle.line.specs.Command.{command_of}
 use Rattle.state.specs.declared.State.{State}

@@ -1,9 +1,9 @@
 -- What a command makes of the source, whatever the letter is: the measurement and the settings stay, but for a turn of the letter. Assumes nothing.
 use Prim.Native.Nat.{ℕ}
-use mathlib.Core.Bool.{true, false, true≢false}
+use mathlib.Core.Bool.{true, true≢false}
 use mathlib.Core.Logic.{◌⊎◌, inl, inr, ◌≢◌}
 use mathlib.Core.Option.{Option, none, some}
-use mathlib.Core.Path.{◌≡◌, refl, sym, ap, ap₂, ◌∙◌}
+use mathlib.Core.Path.{◌≡◌, refl, sym, ap, ◌∙◌}
 use Rattle.laws.proofs.Tests.{told}
 use Rattle.line.specs.declared.Line.{Line}
 use Rattle.line.specs.Command.{command_of}

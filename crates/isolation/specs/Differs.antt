@@ -1,6 +1,6 @@
 -- Two runs in which the camera side's bytes differ, in the letter and its checksum, so that 'may differ' is not said of nothing: in the first the external port
 -- acts on Y before the camera asks for the fixed data, in the second it is left alone. Statements only.
-use Rattle.std.specs.Prelude.{ℕ, true, false, List, [], ◌∷◌, ◌++◌, ◌≢◌, ◌≡◌, replicate}
+use Rattle.std.specs.Prelude.{ℕ, true, false, List, ◌∷◌, ◌++◌, ◌≢◌, ◌≡◌, replicate}
 use Rattle.bench_lens.specs.Bench.{bench_settings, bench_measurement}
 use Rattle.line.specs.Line.{CR}
 use Rattle.rules.specs.Does.{fixed_with}

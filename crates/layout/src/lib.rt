@@ -1,6 +1,7 @@
 // How a record and fixed data lie in a C host's memory: numbers in whole bytes, lowest first. What does not
 // fit is not written.
 #![tactic(auto)]
+
 ghost use Rattle.std.specs.Prelude.{◌≡◌, ◌*◌, ◌≤◌, length};
 ghost use Rattle.laws.specs.Lowest.{lowest_first};
 ghost use Rattle.laws.specs.Over.{over};

@@ -1,5 +1,6 @@
 // Writing into lent memory at a place. What does not fit is not written, so no caller owes a bound.
 #![tactic(auto)]
+
 ghost use Rattle.lent.specs.Clauses.{HasRoom, PutByte, PutPair, PutText};
 
 // Whether n bytes from a place on fit into a memory of len bytes.

@@ -1,5 +1,6 @@
 // The line that the port collects byte by byte, and the decision over its bytes: which command it is.
 #![tactic(auto)]
+
 ghost use Rattle.std.specs.Prelude.{◌≡◌};
 ghost use Rattle.line.specs.Command.{one_byte, after_k, two_bytes, after_kb, film_of, after_w, three_bytes, command_in};
 ghost use Rattle.line.specs.Clauses.{LineBlank, LineEnds, LineJoined, LineIsValid, LineCommand};

@@ -1,6 +1,7 @@
 // Each reply and record as a message: its bytes at the start of a fresh buffer of zeros, ended with or
 // without a checksum.
 #![tactic(auto)]
+
 ghost use Rattle.std.specs.Prelude.{◌≡◌, true, ◌∷◌, ◌+◌, ◌≤◌, length};
 ghost use Rattle.frame.specs.Frame.{ending_width, framed};
 ghost use Rattle.units.specs.Measurement.{degrees};

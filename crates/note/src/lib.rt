@@ -1,6 +1,7 @@
 // A focus puller's note, field 14: up to 60 bytes, none below 20 hex, behind the serial of a record. Which messages have one, and what
 // their readers and writers answer, as definitions for any form.
 #![tactic(auto)]
+
 ghost use Rattle.note.specs.Clauses.{IsNote};
 
 // The bytes that a note holds at most.

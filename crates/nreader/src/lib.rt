@@ -1,5 +1,6 @@
 // The reader of the N message, and the owner's name as a part of it.
 #![tactic(auto)]
+
 ghost use Rattle.std.specs.Prelude.{◌≡◌, length};
 ghost use Rattle.frame.specs.Message.{found};
 ghost use Rattle.fixed.specs.Fixed.{kind_ok, letter_ok, fixed_read};

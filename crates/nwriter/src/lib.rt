@@ -1,5 +1,6 @@
 // The writer of the N message.
 #![tactic(auto)]
+
 ghost use Rattle.std.specs.Prelude.{◌≡◌, ◌≤◌, length};
 ghost use Rattle.laws.specs.Over.{over};
 ghost use Rattle.fixed.specs.Form.{fixed_length};

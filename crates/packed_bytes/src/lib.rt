@@ -1,5 +1,6 @@
 // A packed record's bytes: what they say, and whether they are right.
 #![tactic(auto)]
+
 ghost use Rattle.std.specs.Prelude.{◌&&◌, ◌≡◌, ◌≤◌, ◌<◌, leb, length};
 ghost use Rattle.digits.specs.Digits.{are_digits};
 ghost use Rattle.record.specs.Forms.{front_packed, middle_packed, back_packed, packed_form, packed_length};

@@ -1,6 +1,7 @@
 // The writer of the packed record (command Kd). 39 bytes of contents, in groups: front 0..9, middle
 // 9..23, back 23..29, serial 29..39.
 #![tactic(auto)]
+
 ghost use Rattle.std.specs.Prelude.{◌≡◌, ◌≤◌, length};
 ghost use Rattle.laws.specs.Over.{over};
 ghost use Rattle.record.specs.Forms.{front_packed, middle_packed, back_packed, packed_length, front_of, middle_of, back_of};

@@ -1,5 +1,6 @@
 // A number in tenths as text: digits, a point and one digit (027.3 for 273).
 #![tactic(auto)]
+
 ghost use Rattle.pointed.specs.Clauses.{PutPointed, ReadPointed};
 
 use digits::Field;

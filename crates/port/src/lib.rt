@@ -1,5 +1,6 @@
 // The port: a state handed in and handed back by start, receive, slot and measure.
 #![tactic(auto)]
+
 ghost use Rattle.std.specs.Prelude.{◌≡◌, ◌<◌};
 ghost use Rattle.state.specs.State.{message_length};
 ghost use Rattle.port.specs.Port.{send_from, begun_with, begins_record, rest_of, act_of, taken_of, handed, unit_of, started_port, start_verdict, line_by, nobody, is_reply, reply_last};

@@ -1,5 +1,6 @@
 // What a replay prints.
 #![tactic(auto)]
+
 ghost use Rattle.std.specs.Prelude.{◌≡◌, ◌<◌, ◌≤◌, length};
 ghost use Rattle.printed.specs.Printed.{hex_digit, width_of, labelled, Prints};
 ghost use Rattle.printed.specs.Clauses.{PutSlot, Separator, PutVerdict, PutCount};

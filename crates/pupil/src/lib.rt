@@ -1,6 +1,7 @@
 // The entrance pupil, the one signed field, as text (E, sign, three digits) and packed (sign and
 // ten-bit magnitude in two groups). Zero is written with plus; minus zero is read as zero.
 #![tactic(auto)]
+
 ghost use Rattle.std.specs.Prelude.{◌≡◌};
 ghost use Rattle.pupil.specs.Pupil.{sign_byte, is_marked, signed_field, pupil_code};
 ghost use Rattle.pupil.specs.Clauses.{PutPupilText, PutPupilPacked, ReadPupilText, ReadPupilPacked};

@@ -1,6 +1,7 @@
 // A record by value: its fields, what may be sent, and the two forms as definitions. The ranges are
 // what both forms hold, so one rule serves both.
 #![tactic(auto)]
+
 ghost use Rattle.std.specs.Prelude.{◌≡◌};
 ghost use Rattle.record.specs.Record.{front_lowest, middle_lowest, back_lowest};
 ghost use Rattle.record.specs.Clauses.{AcceptedRecord, NoRecord, RefusedRecord, LowestFigure, LowestField};

@@ -1,6 +1,7 @@
 // The recorder: what it has to send, and what it makes of each message of the stream that it reads. It asks for the
 // fixed data and reads messages as such, plain, until one is accepted; from then on as records, by its settings.
 #![tactic(auto)]
+
 ghost use Rattle.std.specs.Prelude.{◌≡◌};
 ghost use Rattle.record.specs.Record.{record_read};
 ghost use Rattle.recorder.specs.Recorder.{nothing_but, record_ending, reading_in, told_as, hold_of};

@@ -1,5 +1,6 @@
 // The refusals of document 01 and the requests, each with the number and the value that the paper gives it.
 #![tactic(auto)]
+
 ghost use Rattle.refusal.specs.Clauses.{NumberOf, ValueOf, IsDone};
 
 #[derive(Clone, Copy)]

@@ -1,6 +1,7 @@
 // The table of commands: what each does to the source, and its reply, a message under the modes after the
 // command.
 #![tactic(auto)]
+
 ghost use Rattle.std.specs.Prelude.{◌≡◌, [], ◌∷◌, ◌≤◌};
 ghost use Rattle.frame.specs.Frame.{framed};
 ghost use Rattle.fixed.specs.Form.{fixed_form};

@@ -1,6 +1,7 @@
 // The run of a capture on both connectors: a line names its port, and its event is told by the run of that port, over the
 // settings that both share and with the slots of both.
 #![tactic(auto)]
+
 ghost use Rattle.std.specs.Prelude.{◌≡◌};
 ghost use Rattle.connectors.specs.Connectors.{line_at, with_line};
 ghost use Rattle.runs.specs.Runs.{is_numbered, event_on, with_run};

@@ -1,5 +1,6 @@
 // The serial, field 12: S and nine bytes of text, the same in both forms of a record.
 #![tactic(auto)]
+
 ghost use Rattle.serial.specs.Clauses.{PutSerial, NineOf, RecordFrom};
 
 use record::{Figures, Record};

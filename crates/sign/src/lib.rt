@@ -1,5 +1,6 @@
 // A signed number as a sign and a size: the only functions that compute with signed numbers.
 #![tactic(auto)]
+
 ghost use Rattle.sign.specs.Clauses.{IsBelow, SizeOf, SignedOf};
 
 // Whether the number is below zero.

@@ -1,5 +1,6 @@
 // The parts of the port's state by value, and what a handed-in part must be (refusal 16).
 #![tactic(auto)]
+
 ghost use Rattle.std.specs.Prelude.{◌≡◌};
 ghost use Rattle.state.specs.State.{valid_modes};
 ghost use Rattle.state.specs.Clauses.{ValidMessage, ValidSource};

@@ -1,6 +1,7 @@
 // The ring stop and its tenth: the stop as three characters of text (5.6, 11.), and both as the
 // shared pair of the packed form.
 #![tactic(auto)]
+
 ghost use Rattle.stop.specs.Clauses.{StopOk, PutStopText, ReadStopText, PutStopPair, ReadStop, ReadTenth};
 
 use digits::Field;

@@ -1,5 +1,6 @@
 // A record's text straight from its packed bytes, and its ending.
 #![tactic(auto)]
+
 ghost use Rattle.std.specs.Prelude.{◌∷◌, ◌≡◌, ◌+◌, ◌*◌, ◌≤◌, length};
 ghost use Rattle.laws.specs.Lowest.{from_lowest};
 ghost use Rattle.laws.specs.Over.{over};

@@ -1,5 +1,6 @@
 // An event of a capture run on the port, and what it prints.
 #![tactic(auto)]
+
 ghost use Rattle.std.specs.Prelude.{◌≡◌, ◌*◌, ◌≤◌, length};
 ghost use Rattle.capture.specs.declared.Event.TheVariants as event;
 ghost use Rattle.telling.specs.Telling.{RunsSlots, slots_left, handed, tells, Tells};

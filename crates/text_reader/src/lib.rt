@@ -2,6 +2,7 @@
 // fields has a function that reads it, and another crate may call it. Of bytes of another number than
 // they take, the first field is wrong.
 #![tactic(auto)]
+
 ghost use Rattle.std.specs.Prelude.{◌≡◌, length};
 ghost use Rattle.codec.specs.Codec.{read_tagged};
 ghost use Rattle.stop.specs.Stop.{read_stop_text};

@@ -1,6 +1,7 @@
 // The writer of the text record (message D). The form is `text_form` of the crate record; each group of
 // fields has a function that writes it.
 #![tactic(auto)]
+
 ghost use Rattle.std.specs.Prelude.{◌≡◌, ◌≤◌, length};
 ghost use Rattle.laws.specs.Over.{over};
 ghost use Rattle.record.specs.Forms.{front_text, middle_text, ten_length, front_of, middle_of};

@@ -1,6 +1,7 @@
 // Packed records as text, for the transfer station: straight from packed bytes to text bytes, and by way of a record.
 // Both routes promise the same. A host's record is written as text by the straight one too. The straight one looks first whether the reader accepts, and asks it why only where it does not.
 #![tactic(auto)]
+
 ghost use Rattle.std.specs.Prelude.{false, List, ◌≡◌, ℕ, length};
 ghost use Rattle.refusal.specs.Answer.{accepted, is_accepted};
 ghost use Rattle.frame.specs.Message.{read_of, message_of, Moves};

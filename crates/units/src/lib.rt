@@ -1,6 +1,7 @@
 // A measurement, the conversion between 0.1 inch (I) and 1 mm (M), and the record that a measurement
 // gives in a display unit.
 #![tactic(auto)]
+
 ghost use Rattle.std.specs.Prelude.{◌≡◌, ◌≤◌};
 ghost use Rattle.refusal.specs.Answer.{accepted, unless};
 ghost use Rattle.refusal.specs.declared.Refusal.TheVariants.{Field};

@@ -11,7 +11,7 @@ use native.Mathlib.Omega.{arith}
 use lib.Dec.{eqb}
 use lib.ListN.{length}
 use Rattle.laws.proofs.Tests.{cond_yes, by, never}
-use Rattle.machine.specs.Machine.{Kind, State, port, waiting, line, Choice, choice, rules, Out, grew, took, dropped, idles, begin, on_slot, received, slot, shows, sent_in}
+use Rattle.machine.specs.Machine.{Kind, State, port, Choice, choice, rules, Out, grew, took, dropped, idles, begin, on_slot, received, slot, shows, sent_in}
 use Rattle.refusal.specs.declared.Refusal.{Refusal}
 use Rattle.refusal.specs.declared.Refusal.TheVariants as refusal
 use Rattle.refusal.specs.declared.Verdict.{Verdict}

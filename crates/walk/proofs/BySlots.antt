@@ -3,7 +3,7 @@ use Prim.Native.Nat.{ℕ, zero, suc, ◌+◌}
 use mathlib.Core.List.{List, [], ◌∷◌, ◌++◌, append-nil, append_assoc}
 use mathlib.Core.Path.{◌≡◌, refl, sym, ap, ap₂, ◌∙◌}
 use lib.ListN.{replicate}
-use Rattle.machine.specs.Machine.{port, Event, Events, received, slot, given, slots}
+use Rattle.machine.specs.Machine.{Event, Events, received, slot, given, slots}
 use Rattle.machine.proofs.Promise.{slots_append}
 use Rattle.rules.specs.Lens.{Given, measurement, elsewhere, lens}
 use Rattle.walk.specs.Walk.{Sound}

@@ -1,6 +1,5 @@
 -- `append::after_o` meets its contract: each arm is a case of `after_o`, whose tests compute at the arm's byte. Assumes nothing.
-use mathlib.Core.Path.{refl, ap, ◌∙◌}
-use borrow.Author.Rules.{rules}
+use mathlib.Core.Path.{ap, ◌∙◌}
 use borrow.Author.Tests.{ne_eqb}
 use Rattle.laws.proofs.Tests.{at, no}
 use Rattle.append.specs.Append.{did, after_o}

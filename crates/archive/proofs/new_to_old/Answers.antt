@@ -6,7 +6,6 @@ use Rattle.record.specs.declared.RecordRead.{RecordRead}
 use Rattle.record.proofs.Told.{told_refused, told_done}
 use Rattle.archive.specs.Archive.{old_line_length}
 use Rattle.archive.proofs.Laws.{back_refused, back_read}
-use borrow.Author.Rules.{rules}
 use Rattle.archive.proofs.new_to_old.Goals as goal
 
 pub returns-in-Refused : goal.returns-in-Refused

@@ -18,7 +18,6 @@ use Rattle.archive.specs.Old.{old_form, old_length}
 use Rattle.archive.specs.Archive.{new_line_length}
 use Rattle.archive.proofs.Exact.{old_width}
 use Rattle.archive.proofs.Laws.{forward_refused, forward_read, read_fits, added_written}
-use borrow.Author.Rules.{rules}
 use Rattle.archive.proofs.old_to_new.Tie as tie
 use Rattle.archive.proofs.old_to_new.Lts as lts
 use Rattle.archive.proofs.old_to_new.Goals as goal

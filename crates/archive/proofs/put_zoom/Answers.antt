@@ -4,7 +4,6 @@ use native.Mathlib.Omega.{arith}
 use Rattle.laws.proofs.OverLaws.{last, next, run}
 use Rattle.digits.specs.Digits.{digits}
 use Rattle.archive.specs.Old.{old_zoom}
-use borrow.Author.Rules.{rules}
 use Rattle.archive.proofs.put_zoom.Goals as goal
 
 pub returns : goal.returns

@@ -6,7 +6,6 @@ use Rattle.text_reader.proofs.Parts.{front_width, middle_width, back_width}
 use Rattle.archive.specs.Old.{old_zoom, old_back, old_form}
 use Rattle.archive.proofs.Exact.{zoom_width}
 use Rattle.archive.proofs.Laws.{old_back_lem}
-use borrow.Author.Rules.{rules}
 use Rattle.archive.proofs.read_old.Goals as goal
 
 pub returns : goal.returns

@@ -11,7 +11,6 @@ use Rattle.codec.proofs.Fields.{gave, refused, wrong_first, wrong_later, right_b
 use Rattle.pointed.specs.Pointed.{point}
 use Rattle.archive.specs.Old.{old_zoom}
 use Rattle.archive.proofs.Laws.{from_parts, zoom_parts}
-use borrow.Author.Rules.{rules}
 use Rattle.archive.proofs.read_zoom.Tie as tie
 use Rattle.archive.proofs.read_zoom.Lts as lts
 use Rattle.archive.proofs.read_zoom.Goals as goal

@@ -12,7 +12,6 @@ use Rattle.archive.specs.Old.{by_ten, old_form, old_length}
 use Rattle.archive.specs.Archive.{old_line_length}
 use Rattle.archive.proofs.Exact.{zoom_long, old_long, old_parts}
 use Rattle.archive.proofs.Laws.{dropped_yes, dropped_no}
-use borrow.Author.Rules.{rules}
 use Rattle.archive.proofs.write_old.Goals as goal
 
 pub returns-then-f-ne0 : goal.returns-then-f-ne0

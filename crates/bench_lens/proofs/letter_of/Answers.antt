@@ -5,7 +5,6 @@ use mathlib.Core.Path.{◌≡◌, refl}
 use native.Mathlib.Omega.{arith}
 use lib.ListN.{length, get_or}
 use Rattle.bench_lens.specs.Bench.{letter_of}
-use borrow.Author.Rules.{rules}
 use Rattle.bench_lens.proofs.letter_of.Goals as goal
 
 none : (w : List ℕ) → length w ≡ 0 → 73 ≡ letter_of w

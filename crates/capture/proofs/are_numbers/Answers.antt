@@ -1,11 +1,9 @@
 -- `capture::are_numbers` meets its contract: the words that were seen are numbers, and one that is none decides. Assumes nothing.
-use Prim.Native.Nat.{ℕ, suc, ◌-◌, ◌≤◌}
-use mathlib.Core.Bool.{true}
+use Prim.Native.Nat.{ℕ, suc}
 use mathlib.Core.Path.{◌≡◌, refl, sym, ap, ◌∙◌}
 use native.Mathlib.Numerals.{add-one}
 use native.Mathlib.Omega.{arith}
 use borrow.Author.Rules.{rules}
-use borrow.Author.Tests.{not-true, not-false}
 use Rattle.capture.specs.Words.{word}
 use Rattle.capture.specs.Numbers.{is_whole}
 use Rattle.capture.specs.Capture.{number_words}

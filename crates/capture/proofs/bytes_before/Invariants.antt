@@ -1,11 +1,7 @@
 use Prim.Native.Nat.{◌+◌, ◌-◌, ◌≤◌}
 use mathlib.Core.Path.{◌≡◌}
-use native.Mathlib.Numerals.{add-one}
-use native.Mathlib.Omega.{arith}
-use borrow.Author.Rules.{rules}
 use lib.ListN.{length, drop}
 use Rattle.capture.specs.Words.{before}
-use Rattle.capture.proofs.Words.{before_here, before_later, before_none}
 use Rattle.capture.proofs.bytes_before.Given as goal
 
 abbrev pub invariant-loop-i : goal.invariant-loop-i

@@ -1,7 +1,6 @@
 -- `capture::digits_of` meets its contract: no word is a number without a digit, and every other is read as digits. Assumes nothing.
 use mathlib.Core.Path.{◌∙◌}
 use Rattle.capture.proofs.Numbers.{number_none, number_some}
-use borrow.Author.Rules.{rules}
 use Rattle.capture.proofs.digits_of.Goals as goal
 
 pub returns-then-word-eq0 : goal.returns-then-word-eq0

@@ -3,7 +3,6 @@ use mathlib.Core.Path.{sym, ap, ◌∙◌}
 use mir.Facts.{to_z-of_z}
 use Rattle.sign.specs.Sign.{below0, size}
 use Rattle.capture.proofs.Numbers.{field_below, field_size}
-use borrow.Author.Rules.{rules}
 use Rattle.capture.proofs.field_for.Goals as goal
 
 pub returns-then-is_below : goal.returns-then-is_below

@@ -2,7 +2,6 @@
 use native.Mathlib.Omega.{arith}
 use Rattle.laws.proofs.Range.{inside, below, above}
 use Rattle.capture.specs.Numbers.{hex_value}
-use borrow.Author.Rules.{rules}
 use Rattle.capture.proofs.hex_value.Goals as goal
 
 pub returns-in-48-to-57 : goal.returns-in-48-to-57

@@ -5,7 +5,6 @@ use Rattle.laws.proofs.Tests.{and_fails, and_goes}
 use Rattle.capture.specs.Words.{sole, word}
 use Rattle.capture.specs.Numbers.{is_whole}
 use Rattle.capture.specs.Capture.{is_letter, is_measurement}
-use borrow.Author.Rules.{rules}
 use Rattle.capture.proofs.is_measurement.Tie as tie
 use Rattle.capture.proofs.is_measurement.Lts as lts
 use Rattle.capture.proofs.is_measurement.Goals as goal

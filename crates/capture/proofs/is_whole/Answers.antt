@@ -1,7 +1,6 @@
 -- `capture::is_whole` meets its contract: the arm is the case of `is_value`. Assumes nothing.
 use mathlib.Core.Path.{sym, ap, ◌∙◌}
 use Rattle.capture.specs.Numbers.{is_value}
-use borrow.Author.Rules.{rules}
 use Rattle.capture.proofs.is_whole.Goals as goal
 
 pub returns-in-Value : goal.returns-in-Value

@@ -1,7 +1,6 @@
 -- `capture::received_of` meets its contract: its tests are those of `received_of`. Assumes nothing.
 use borrow.Author.Tests.{eq-eqb, ne_eqb, lt-ltb, le-ltb}
 use Rattle.capture.specs.Capture.{received_of}
-use borrow.Author.Rules.{rules}
 use Rattle.capture.proofs.received_of.Goals as goal
 
 pub returns-then-word-ne2 : goal.returns-then-word-ne2

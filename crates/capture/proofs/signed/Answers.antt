@@ -1,7 +1,6 @@
 -- `capture::signed` meets its contract: nine digits fit 31 bits, so that the number has an opposite. Assumes nothing.
 use native.Mathlib.Omega.{arith}
 use Rattle.sign.proofs.Law.{down_fits, down_is, up_is}
-use borrow.Author.Rules.{rules}
 use Rattle.capture.proofs.signed.Goals as goal
 
 pub overflow_sub-result : goal.overflow_sub-result

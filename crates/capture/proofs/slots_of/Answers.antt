@@ -6,7 +6,6 @@ use Rattle.laws.proofs.Tests.{at}
 use Rattle.digits.specs.declared.Field.TheVariants as field
 use Rattle.capture.specs.Numbers.{digits_of}
 use Rattle.capture.specs.Capture.{slots_by}
-use borrow.Author.Rules.{rules}
 use Rattle.capture.proofs.slots_of.Tie as tie
 use Rattle.capture.proofs.slots_of.Lts as lts
 use Rattle.capture.proofs.slots_of.Goals as goal

@@ -1,6 +1,5 @@
 -- `capture::sole_byte` meets its contract: the test is the length that `sole` goes by. Assumes nothing.
 use Rattle.capture.proofs.Words.{sole_one, sole_other}
-use borrow.Author.Rules.{rules}
 use Rattle.capture.proofs.sole_byte.Goals as goal
 
 pub returns-then-word-ne1 : goal.returns-then-word-ne1

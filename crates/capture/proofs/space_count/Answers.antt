@@ -1,11 +1,11 @@
 -- `capture::space_count` meets its contract: what was counted and what is left have the whole's answer. Assumes nothing.
-use Prim.Native.Nat.{suc, ◌+◌, ◌-◌, ◌≤◌}
+use Prim.Native.Nat.{suc, ◌+◌, ◌≤◌}
 use mathlib.Core.Logic.{⊎_elim}
 use mathlib.Core.Path.{◌≡◌}
 use native.Mathlib.Numerals.{add-one}
 use native.Mathlib.Omega.{arith}
 use borrow.Author.Rules.{rules}
-use lib.ListN.{length, drop}
+use lib.ListN.{drop}
 use Rattle.capture.specs.Words.{spaces}
 use Rattle.capture.proofs.Words.{spaces_here, spaces_later, spaces_none}
 use Rattle.capture.proofs.space_count.Goals as goal

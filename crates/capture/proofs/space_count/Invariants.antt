@@ -1,12 +1,7 @@
-use Prim.Native.Nat.{suc, ◌+◌, ◌-◌, ◌≤◌}
-use mathlib.Core.Logic.{⊎_elim}
+use Prim.Native.Nat.{◌+◌, ◌-◌, ◌≤◌}
 use mathlib.Core.Path.{◌≡◌}
-use native.Mathlib.Numerals.{add-one}
-use native.Mathlib.Omega.{arith}
-use borrow.Author.Rules.{rules}
 use lib.ListN.{length, drop}
 use Rattle.capture.specs.Words.{spaces}
-use Rattle.capture.proofs.Words.{spaces_here, spaces_later, spaces_none}
 use Rattle.capture.proofs.space_count.Given as goal
 
 abbrev pub invariant-loop-i : goal.invariant-loop-i

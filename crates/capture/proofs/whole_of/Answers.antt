@@ -8,7 +8,6 @@ use lib.ListN.{length}
 use Rattle.laws.proofs.ListLaws.{last_part}
 use Rattle.capture.specs.Numbers.{digits_of, whole_by}
 use Rattle.capture.proofs.Numbers.{whole_none, whole_minus, whole_plain}
-use borrow.Author.Rules.{rules}
 use Rattle.capture.proofs.whole_of.Goals as goal
 
 pub returns-then-word-eq0 : goal.returns-then-word-eq0

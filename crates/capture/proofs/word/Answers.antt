@@ -7,7 +7,6 @@ use lib.ListN.{length, drop, length-drop}
 use Rattle.laws.proofs.ListLaws.{last_part}
 use Rattle.capture.specs.Words.{before, space, word}
 use Rattle.capture.proofs.Words.{before_low}
-use borrow.Author.Rules.{rules}
 use Rattle.capture.proofs.word.Tie as tie
 use Rattle.capture.proofs.word.Lts as lts
 use Rattle.capture.proofs.word.Goals as goal

@@ -1,12 +1,7 @@
-use Prim.Native.Nat.{ℕ, suc, ◌+◌, ◌-◌, ◌≤◌}
-use mathlib.Core.Path.{◌≡◌, sym, ap, ◌∙◌}
-use native.Mathlib.Omega.{arith}
-use borrow.Author.Rules.{rules}
+use Prim.Native.Nat.{◌-◌, ◌≤◌}
+use mathlib.Core.Path.{◌≡◌}
 use lib.ListN.{length, drop}
-use lib.Seq.{drop-length}
-use Rattle.laws.proofs.ListLaws.{last_part}
-use Rattle.capture.specs.Words.{before, space, behind}
-use Rattle.capture.proofs.Words.{behind_more, behind_last}
+use Rattle.capture.specs.Words.{behind}
 use Rattle.capture.proofs.word_start.Given as goal
 
 abbrev pub invariant-loop-i : goal.invariant-loop-i

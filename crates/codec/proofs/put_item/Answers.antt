@@ -1,6 +1,5 @@
 -- `codec::put_item` meets its contract: a text as long as the item is all that is left there. Assumes nothing.
 use mathlib.Core.Path.{refl, ◌∙◌}
-use borrow.Author.Rules.{rules}
 use borrow.Author.Tests.{eq-eqb, ne_eqb}
 use Rattle.laws.proofs.Tests.{yes, no}
 use Rattle.codec.proofs.Texts.{over_whole_lem}

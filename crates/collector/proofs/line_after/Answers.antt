@@ -1,9 +1,7 @@
 -- `collector::line_after` meets its contract: its tests are those of `line_after`. Assumes nothing.
 use mathlib.Core.Path.{refl, sym, ◌∙◌}
-use borrow.Author.Tests.{not-true, not-false}
 use Rattle.laws.proofs.Tests.{yes, no}
 use Rattle.collector.specs.Collect.{line_after}
-use borrow.Author.Rules.{rules}
 use Rattle.collector.proofs.line_after.Goals as goal
 
 pub returns-then-not-is_valid : goal.returns-then-not-is_valid

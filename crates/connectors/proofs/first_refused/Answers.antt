@@ -3,7 +3,6 @@ use mathlib.Core.Path.{refl}
 use Rattle.laws.proofs.Tests.{at}
 use Rattle.refusal.specs.declared.Verdict.{Verdict}
 use Rattle.connectors.specs.Connectors.{first_refused}
-use borrow.Author.Rules.{rules}
 use Rattle.connectors.proofs.first_refused.Goals as goal
 
 pub returns-in-Refused : goal.returns-in-Refused

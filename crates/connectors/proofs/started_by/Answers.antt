@@ -7,7 +7,6 @@ use Rattle.line.specs.declared.Line.{Line}
 use Rattle.connectors.specs.declared.Connectors.{Connectors}
 use Rattle.connectors.specs.declared.StartedBoth.{StartedBoth}
 use Rattle.connectors.specs.Connectors.{started_by}
-use borrow.Author.Rules.{rules}
 use Rattle.connectors.proofs.started_by.Goals as goal
 
 -- an accepted start, with these lines

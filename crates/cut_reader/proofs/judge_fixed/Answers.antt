@@ -1,6 +1,5 @@
 -- `cut_reader::judge_fixed` meets its contract: its test is the one of `judged`. Assumes nothing.
 use mathlib.Core.Path.{sym, ap, ◌∙◌}
-use borrow.Author.Rules.{rules}
 use Rattle.frame.specs.Message.{read_of}
 use Rattle.fixed.specs.Fixed.{fixed_read}
 use Rattle.fixed.specs.Form.{fixed_form}

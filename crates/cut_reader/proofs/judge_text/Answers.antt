@@ -1,6 +1,5 @@
 -- `cut_reader::judge_text` meets its contract: its test is the one of `judged`. Assumes nothing.
 use mathlib.Core.Path.{sym, ap, ◌∙◌}
-use borrow.Author.Rules.{rules}
 use Rattle.frame.specs.Message.{read_of}
 use Rattle.record.specs.Forms.{text_form}
 use Rattle.record.specs.Record.{record_read}

@@ -1,6 +1,5 @@
 -- `cutter::is_lf_before` meets its contract: its test is the one of `lf_before`. Assumes nothing.
 use mathlib.Core.Path.{refl}
-use borrow.Author.Rules.{rules}
 use borrow.Author.Tests.{eq-eqb, ne_eqb}
 use Rattle.laws.proofs.Tests.{yes, no}
 use Rattle.cutter.specs.Cutter.{lf_before}

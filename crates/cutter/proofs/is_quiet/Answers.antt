@@ -1,13 +1,9 @@
 -- `cutter::is_quiet` meets its contract: what was seen and what is left have the whole's answer. Assumes nothing.
-use Prim.Native.Nat.{◌≤◌, ◌-◌}
-use mathlib.Core.Bool.{◌&&◌}
-use mathlib.Core.Path.{◌≡◌, refl, sym, ◌∙◌}
+use mathlib.Core.Path.{refl, sym, ◌∙◌}
 use native.Mathlib.Numerals.{add-one}
 use native.Mathlib.Omega.{arith}
 use borrow.Author.Rules.{rules}
-use lib.ListN.{length, drop}
 use Rattle.laws.proofs.EveryLaws.{every_next, every_seen}
-use Rattle.cutter.specs.Cutter.{quiet}
 use Rattle.cutter.proofs.is_quiet.Goals as goal
 
 pub loop-i-init : goal.loop-i-init

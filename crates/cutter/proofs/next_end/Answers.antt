@@ -1,13 +1,12 @@
 -- `cutter::next_end` meets its contract: what is left of the stream has the whole's answer. Assumes nothing.
-use Prim.Native.Nat.{◌+◌, ◌-◌, ◌≤◌}
+use Prim.Native.Nat.{◌+◌}
 use mathlib.Core.Bool.{Bool, false, ◌&&◌}
 use mathlib.Core.Logic.{⊎_elim}
 use mathlib.Core.Path.{◌≡◌, sym, ap, ◌∙◌}
 use native.Mathlib.Omega.{arith}
-use borrow.Author.Rules.{rules}
 use borrow.Author.Tests.{eq-eqb, ne_eqb}
 use lib.Dec.{eqb}
-use lib.ListN.{length, get_or, drop}
+use lib.ListN.{get_or, drop}
 use Rattle.laws.proofs.Tests.{and_both, and_fails, and_fails_by}
 use Rattle.cutter.specs.Cutter.{end_from, lf_before}
 use Rattle.cutter.proofs.Laws.{end_here, end_later, end_nowhere, lf_next}

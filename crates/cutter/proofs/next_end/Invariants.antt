@@ -1,16 +1,7 @@
-use Prim.Native.Nat.{◌+◌, ◌-◌, ◌≤◌}
-use mathlib.Core.Bool.{Bool, false, ◌&&◌}
-use mathlib.Core.Logic.{⊎_elim}
-use mathlib.Core.Path.{◌≡◌, sym, ap, ◌∙◌}
-use native.Mathlib.Omega.{arith}
-use borrow.Author.Rules.{rules}
-use borrow.Author.Tests.{eq-eqb, ne_eqb}
-use lib.Dec.{eqb}
-use lib.ListN.{length, get_or, drop}
-use Rattle.laws.proofs.Tests.{and_both, and_fails, and_fails_by}
+use Prim.Native.Nat.{◌-◌, ◌≤◌}
+use mathlib.Core.Path.{◌≡◌}
+use lib.ListN.{length, drop}
 use Rattle.cutter.specs.Cutter.{end_from, lf_before}
-use Rattle.cutter.proofs.Laws.{end_here, end_later, end_nowhere, lf_next}
-use Rattle.cutter.proofs.Quiet.{end_behind}
 use Rattle.cutter.proofs.next_end.Given as goal
 
 abbrev pub invariant-loop-i : goal.invariant-loop-i

@@ -3,10 +3,9 @@ use Prim.Native.Nat.{ℕ, ◌+◌, ◌-◌}
 use mathlib.Core.Path.{◌≡◌, refl, sym, ap, ◌∙◌}
 use native.Mathlib.Omega.{arith}
 use borrow.Author.Rules.{rules}
-use borrow.Author.Tests.{not-false}
-use lib.ListN.{length, take, drop}
+use lib.ListN.{take, drop}
 use Rattle.laws.specs.Every.{every}
-use Rattle.cutter.specs.Cutter.{quiet, BehindQuiet}
+use Rattle.cutter.specs.Cutter.{quiet}
 use Rattle.cutter.proofs.Quiet.{quiet_more}
 use Rattle.cutter.proofs.skip_quiet.Goals as goal
 

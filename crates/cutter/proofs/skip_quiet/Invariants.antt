@@ -1,12 +1,6 @@
-use Prim.Native.Nat.{ℕ, ◌+◌, ◌-◌}
-use mathlib.Core.Path.{◌≡◌, refl, sym, ap, ◌∙◌}
-use native.Mathlib.Omega.{arith}
-use borrow.Author.Rules.{rules}
-use borrow.Author.Tests.{not-false}
-use lib.ListN.{length, take, drop}
-use Rattle.laws.specs.Every.{every}
-use Rattle.cutter.specs.Cutter.{quiet, BehindQuiet}
-use Rattle.cutter.proofs.Quiet.{quiet_more}
+use Prim.Native.Nat.{◌-◌}
+use lib.ListN.{length}
+use Rattle.cutter.specs.Cutter.{BehindQuiet}
 use Rattle.cutter.proofs.skip_quiet.Given as goal
 
 abbrev pub invariant-loop-at : goal.invariant-loop-at

@@ -1,5 +1,5 @@
 -- `digits::cut` meets its contract: what was taken away is counted above, and what is left is below `times` times 10^7. Assumes nothing.
-use Rattle.std.proofs.Common.{◌≡◌, ◌+◌, ◌-◌, ◌*◌, ◌/◌, ◌^◌, ◌<◌, ◌≤◌, ⊎_elim, arith}
+use Rattle.std.proofs.Common.{◌≡◌, ◌+◌, ◌-◌, ◌*◌, ◌/◌, ◌^◌, ◌<◌, ⊎_elim, arith}
 use Rattle.digits.proofs.cut.Goals as goal
 
 -- a turn takes half of them away, where they fit

@@ -5,7 +5,7 @@ use native.Mathlib.Nat.{pow-zero, pow-le-pow_right}
 use borrow.Author.Tests.{lt-leb}
 use lib.Arith.{digits_lt}
 use Rattle.digits.specs.Digits.{only, read_digits, read_field, widest}
-use Rattle.digits.proofs.Laws.{narrow, onward, onward_start, onward_more, onward_low, onward_high, onward_end}
+use Rattle.digits.proofs.Laws.{narrow, onward_start, onward_more, onward_low, onward_high, onward_end}
 use Rattle.digits.proofs.get.Tie as tie
 use Rattle.digits.proofs.get.Lts as lts
 use Rattle.digits.proofs.get.Goals as goal

@@ -1,5 +1,5 @@
 -- `digits::held` meets its contract: before each turn it holds what n is below the power with `zeros` zeros. Assumes nothing.
-use Rattle.std.proofs.Common.{◌≡◌, ℕ, suc, ◌-◌, ◌*◌, ◌%◌, ◌^◌, ◌<◌, ◌≤◌, sym, ap, ◌∙◌, mod-eq_of_lt, arith, rules}
+use Rattle.std.proofs.Common.{◌≡◌, ℕ, suc, ◌-◌, ◌*◌, ◌%◌, ◌^◌, ◌<◌, sym, ap, ◌∙◌, mod-eq_of_lt, arith}
 use Rattle.digits.proofs.Powers.{may_split, splits, power_most}
 use Rattle.digits.proofs.held.Tie as tie
 use Rattle.digits.proofs.held.Lts as lts

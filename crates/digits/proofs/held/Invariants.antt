@@ -1,5 +1,4 @@
-use Rattle.std.proofs.Common.{◌≡◌, ℕ, suc, ◌-◌, ◌*◌, ◌%◌, ◌^◌, ◌<◌, ◌≤◌, sym, ap, ◌∙◌, mod-eq_of_lt, arith, rules}
-use Rattle.digits.proofs.Powers.{may_split, splits, power_most}
+use Rattle.std.proofs.Common.{◌≡◌, ◌*◌, ◌%◌, ◌^◌, ◌≤◌}
 use Rattle.digits.proofs.held.Given as goal
 
 abbrev pub invariant-loop-zeros : goal.invariant-loop-zeros

@@ -1,6 +1,6 @@
 -- `digits::put_block` meets its contract: before each turn so many digits are still to write as the width has at most `zeros`, and x holds what they say.
 -- Assumes nothing.
-use Rattle.std.proofs.Common.{◌≡◌, ℕ, suc, ◌+◌, ◌-◌, ◌*◌, ◌/◌, ◌%◌, ◌^◌, ◌<◌, ◌≤◌, min, List, length, set, sym, refl, ap, ◌∙◌, subst, le_of_lt, arith, length-set, rules}
+use Rattle.std.proofs.Common.{◌≡◌, ℕ, suc, ◌+◌, ◌-◌, ◌*◌, ◌/◌, ◌%◌, ◌^◌, ◌<◌, ◌≤◌, min, List, length, set, sym, refl, ap, ◌∙◌, subst, le_of_lt, arith, length-set}
 use native.Mathlib.Nat.{min-eq_left, min-eq_right}
 use Rattle.laws.specs.Over.{over}
 use Rattle.digits.specs.Digits.{decimal}

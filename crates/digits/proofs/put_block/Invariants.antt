@@ -1,9 +1,6 @@
-use Rattle.std.proofs.Common.{◌≡◌, ℕ, suc, ◌+◌, ◌-◌, ◌*◌, ◌/◌, ◌%◌, ◌^◌, ◌<◌, ◌≤◌, min, List, length, set, sym, refl, ap, ◌∙◌, subst, le_of_lt, arith, length-set, rules}
-use native.Mathlib.Nat.{min-eq_left, min-eq_right}
+use Rattle.std.proofs.Common.{◌≡◌, ℕ, ◌+◌, ◌-◌, ◌*◌, ◌%◌, ◌^◌, ◌≤◌, min, List, length}
 use Rattle.laws.specs.Over.{over}
 use Rattle.digits.specs.Digits.{decimal}
-use Rattle.digits.proofs.FromTheEnd.{none, one}
-use Rattle.digits.proofs.Powers.{may_split, splits, turn}
 use Rattle.digits.proofs.put_block.Given as goal
 
 -- k digits of n are still to write, and x holds what they say

@@ -1,9 +1,8 @@
 -- `digits::put_decimal` meets its contract: before each turn the digits behind the first `left` are written, and m is what those first ones say. Assumes nothing.
-use Rattle.std.proofs.Common.{◌≡◌, ℕ, ◌+◌, ◌-◌, sym, ap, ◌∙◌, arith, rules, leb-false, leb-true}
-use borrow.Author.Tests.{not-true, not-false}
+use Rattle.std.proofs.Common.{◌≡◌, ℕ, ◌+◌, ◌-◌, sym, ap, ◌∙◌, arith, leb-false, leb-true}
 use Rattle.laws.specs.Over.{over}
 use Rattle.digits.specs.Digits.{decimal}
-use Rattle.digits.proofs.FromTheEnd.{Written, no_room, begun, goes_on, ended}
+use Rattle.digits.proofs.FromTheEnd.{no_room, begun, goes_on, ended}
 use Rattle.digits.proofs.Laws.{digits_below}
 use Rattle.digits.proofs.put_decimal.Goals as goal
 

@@ -1,8 +1,7 @@
 -- `digits::put_groups` meets its contract: before each turn the first `left` groups are still to write, and `m` is what they say.
 -- Assumes nothing.
-use Rattle.std.proofs.Common.{◌+◌, ◌-◌, sym, refl, ◌∙◌, arith, rules, leb-false, leb-true}
-use borrow.Author.Tests.{not-true, not-false}
-use Rattle.digits.proofs.FromTheEnd.{Written, no_room, one, begun, goes_on, ended}
+use Rattle.std.proofs.Common.{◌+◌, ◌-◌, sym, refl, ◌∙◌, arith, leb-false, leb-true}
+use Rattle.digits.proofs.FromTheEnd.{no_room, one, begun, goes_on, ended}
 use Rattle.digits.proofs.put_groups.Goals as goal
 
 pub returns-then-not-has_room : goal.returns-then-not-has_room

@@ -1,6 +1,4 @@
-use Rattle.std.proofs.Common.{◌+◌, ◌-◌, sym, refl, ◌∙◌, arith, rules, leb-false, leb-true}
-use borrow.Author.Tests.{not-true, not-false}
-use Rattle.digits.proofs.FromTheEnd.{Written, no_room, one, begun, goes_on, ended}
+use Rattle.digits.proofs.FromTheEnd.{Written}
 use Rattle.digits.proofs.put_groups.Given as goal
 
 abbrev pub invariant-loop-left : goal.invariant-loop-left

@@ -1,5 +1,5 @@
 -- `digits::split` meets its contract: four steps leave the remainder by 256 p - 1, in which a number below 10 p has its digit and its rest. Assumes nothing.
-use Rattle.std.proofs.Common.{◌≡◌, ℕ, ◌-◌, ◌*◌, ◌/◌, ◌%◌, ◌^◌, ◌<◌, ◌≤◌, ap, ◌∙◌, mod-lt, arith, rules}
+use Rattle.std.proofs.Common.{◌≡◌, ℕ, ◌-◌, ◌*◌, ◌/◌, ◌%◌, ◌^◌, ◌<◌, ◌≤◌, ap, ◌∙◌, mod-lt, arith}
 use native.Mathlib.Nat.{pow-succ'}
 use Rattle.digits.proofs.Powers.{counted, steps, power_some, power_most}
 use Rattle.digits.proofs.split.Tie as tie

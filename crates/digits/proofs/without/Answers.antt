@@ -1,5 +1,5 @@
 -- `digits::without` meets its contract: where the difference wrapped, the part did not fit. Assumes nothing.
-use Rattle.std.proofs.Common.{arith, rules}
+use Rattle.std.proofs.Common.{arith}
 use Rattle.digits.proofs.Powers.{fitted, unfitted}
 use Rattle.digits.proofs.without.Goals as goal
 

@@ -3,7 +3,6 @@ use mathlib.Core.Path.{ap, ◌∙◌}
 use native.Mathlib.Omega.{arith}
 use Rattle.laws.specs.Lowest.{lowest_first}
 use Rattle.divided.proofs.Words.{two_hundreds, four_lanes, four_tens, lanes_fit, digits_fit, eight_word, bytes_word}
-use borrow.Author.Rules.{rules}
 use Rattle.divided.proofs.eight.Goals as goal
 
 pub overflow_mul-lanes-2 : goal.overflow_mul-lanes-2

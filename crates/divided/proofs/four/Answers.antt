@@ -3,7 +3,6 @@ use mathlib.Core.Path.{ap, ◌∙◌}
 use native.Mathlib.Omega.{arith}
 use Rattle.laws.specs.Lowest.{lowest_first}
 use Rattle.divided.proofs.Words.{two_tens, four_word, bytes_word}
-use borrow.Author.Rules.{rules}
 use Rattle.divided.proofs.four.Goals as goal
 
 pub overflow_mul-result-2 : goal.overflow_mul-result-2

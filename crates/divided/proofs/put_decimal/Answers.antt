@@ -3,8 +3,7 @@ use Prim.Native.Nat.{◌+◌, ◌≤◌}
 use mathlib.Core.Path.{sym, ◌∙◌}
 use native.Mathlib.Omega.{arith}
 use lib.ListN.{length}
-use borrow.Author.Rules.{rules}
-use borrow.Author.Tests.{leb-true, leb-false, not-true, not-false}
+use borrow.Author.Tests.{leb-true, leb-false}
 use Rattle.digits.proofs.FromTheEnd.{no_room}
 use Rattle.divided.proofs.Stored.{word_written}
 use Rattle.divided.proofs.put_decimal.Goals as goal

@@ -1,6 +1,5 @@
 -- `divided::put_eight` meets its contract: a half, and the other one on from where it ended. Assumes nothing.
 use Rattle.divided.proofs.Stored.{eight_stored}
-use borrow.Author.Rules.{rules}
 use Rattle.divided.proofs.put_eight.Goals as goal
 
 pub returns : goal.returns

@@ -2,7 +2,6 @@
 use native.Mathlib.Omega.{arith}
 use lib.ListN.{length-set}
 use Rattle.divided.proofs.Stored.{four_stored}
-use borrow.Author.Rules.{rules}
 use Rattle.divided.proofs.put_four.Goals as goal
 
 pub bounds-out-at-2 : goal.bounds-out-at-2

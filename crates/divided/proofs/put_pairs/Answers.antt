@@ -2,11 +2,10 @@
 use Prim.Native.Nat.{ℕ, ◌+◌, ◌-◌}
 use mathlib.Core.Path.{◌≡◌, refl, ap, ◌∙◌}
 use native.Mathlib.Omega.{arith}
-use borrow.Author.Rules.{rules}
 use lib.ListN.{length-set}
 use Rattle.laws.specs.Over.{over}
 use Rattle.digits.specs.Digits.{decimal}
-use Rattle.digits.proofs.FromTheEnd.{Written, one, begun, goes_on, ended}
+use Rattle.digits.proofs.FromTheEnd.{one, begun, goes_on, ended}
 use Rattle.divided.proofs.Pairs.{two}
 use Rattle.divided.proofs.put_pairs.Goals as goal
 

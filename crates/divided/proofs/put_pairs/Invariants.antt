@@ -1,12 +1,4 @@
-use Prim.Native.Nat.{ℕ, ◌+◌, ◌-◌}
-use mathlib.Core.Path.{◌≡◌, refl, ap, ◌∙◌}
-use native.Mathlib.Omega.{arith}
-use borrow.Author.Rules.{rules}
-use lib.ListN.{length-set}
-use Rattle.laws.specs.Over.{over}
-use Rattle.digits.specs.Digits.{decimal}
-use Rattle.digits.proofs.FromTheEnd.{Written, one, begun, goes_on, ended}
-use Rattle.divided.proofs.Pairs.{two}
+use Rattle.digits.proofs.FromTheEnd.{Written}
 use Rattle.divided.proofs.put_pairs.Given as goal
 
 abbrev pub invariant-loop-left : goal.invariant-loop-left

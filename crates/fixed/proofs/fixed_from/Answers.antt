@@ -2,7 +2,6 @@
 use Prim.Native.Nat.{ℕ}
 use mathlib.Core.List.{List}
 use mathlib.Core.Path.{◌≡◌}
-use borrow.Author.Rules.{rules}
 use Rattle.fixed.specs.Fixed.{fixed_of}
 use Rattle.fixed.specs.declared.Lens.{Lens}
 use Rattle.fixed.proofs.fixed_from.Goals as goal

@@ -1,13 +1,9 @@
 -- `fixed::is_blur` meets its contract: what was seen and what is left have the whole's answer. Assumes nothing.
-use Prim.Native.Nat.{◌≤◌, ◌-◌}
-use mathlib.Core.Bool.{◌&&◌}
-use mathlib.Core.Path.{◌≡◌, refl, sym, ◌∙◌}
+use mathlib.Core.Path.{refl, sym, ◌∙◌}
 use native.Mathlib.Numerals.{add-one}
 use native.Mathlib.Omega.{arith}
 use borrow.Author.Rules.{rules}
-use lib.ListN.{length, drop}
 use Rattle.laws.proofs.EveryLaws.{every_next, every_seen}
-use Rattle.fixed.specs.Fixed.{blur_ok}
 use Rattle.fixed.proofs.is_blur.Goals as goal
 
 pub loop-i-init : goal.loop-i-init

@@ -1,6 +1,5 @@
 -- `fixed::is_lens` meets its contract: test by test, as `are_settings`. Assumes nothing.
 use mathlib.Core.Path.{refl}
-use borrow.Author.Rules.{rules}
 use Rattle.fixed.specs.Fixed.{lens_lowest}
 use Rattle.fixed.proofs.Fine.{fine_here, fine_last}
 use Rattle.fixed.proofs.is_lens.Goals as goal

@@ -1,7 +1,5 @@
 -- `fixed::lowest_item` meets its contract: each `return` is a step of the chain. Assumes nothing.
 use mathlib.Core.Path.{sym, ◌∙◌}
-use borrow.Author.Rules.{rules}
-use borrow.Author.Tests.{not-true, not-false}
 use Rattle.codec.proofs.Lowest.{wrong_here, right_here, some_here, none_here, wrong_last, right_last}
 use Rattle.fixed.specs.Fixed.{fixed_lowest}
 use Rattle.fixed.proofs.lowest_item.Goals as goal

@@ -1,7 +1,6 @@
 -- `fixed::lowest_of_lens` meets its contract: each `return` is a step of the chain. Assumes nothing.
 use mathlib.Core.Path.{sym, ◌∙◌}
-use borrow.Author.Rules.{rules}
-use borrow.Author.Tests.{le-leb, lt-leb, not-true, not-false}
+use borrow.Author.Tests.{le-leb, lt-leb}
 use Rattle.codec.proofs.Lowest.{wrong_here, right_here, wrong_last, right_last}
 use Rattle.fixed.specs.Fixed.{lens_lowest}
 use Rattle.fixed.proofs.lowest_of_lens.Goals as goal

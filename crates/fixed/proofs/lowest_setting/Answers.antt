@@ -1,7 +1,6 @@
 -- `fixed::lowest_setting` meets its contract: the fixed data, then the names and the table. Assumes nothing.
 use mathlib.Core.Path.{◌≡◌, sym, ◌∙◌}
 use borrow.Author.Rules.{rules}
-use borrow.Author.Tests.{not-true, not-false}
 use lib.ListN.{length}
 use Rattle.codec.proofs.Lowest.{wrong_here, right_here, some_here, none_here, wrong_last, right_last}
 use Rattle.fixed.specs.Fixed.{settings_lowest}

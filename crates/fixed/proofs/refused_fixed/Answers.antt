@@ -1,5 +1,4 @@
 -- `fixed::refused_fixed` meets its contract: its contents are those of `no_fixed`. Assumes nothing.
-use borrow.Author.Rules.{rules}
 use Rattle.fixed.proofs.refused_fixed.Goals as goal
 
 pub returns : goal.returns

@@ -1,6 +1,5 @@
 -- `frame::is_ended` meets its contract. Assumes nothing.
 use mathlib.Core.Path.{refl}
-use borrow.Author.Rules.{rules}
 use Rattle.frame.specs.Frame.{is_ended}
 use Rattle.frame.proofs.is_ended.Goals as goal
 

@@ -7,7 +7,6 @@ use lib.Dec.{eqb}
 use lib.ListN.{get_or}
 use Rattle.frame.specs.Frame.{sums}
 use Rattle.frame.specs.declared.Sum.{Sum}
-use borrow.Author.Rules.{rules}
 use Rattle.frame.proofs.is_summed.Goals as goal
 
 pub returns : goal.returns

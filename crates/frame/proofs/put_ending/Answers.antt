@@ -13,7 +13,6 @@ use Rattle.laws.proofs.OverLaws.{onto}
 use Rattle.frame.specs.Frame.{sum_of, ending, ending_width}
 use Rattle.frame.specs.declared.Sum.{Sum}
 use Rattle.frame.proofs.Rooms.{no_room}
-use borrow.Author.Rules.{rules}
 use Rattle.frame.proofs.put_ending.Tie as tie
 use Rattle.frame.proofs.put_ending.Lts as lts
 use Rattle.frame.proofs.put_ending.Goals as goal

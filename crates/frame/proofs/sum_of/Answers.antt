@@ -1,7 +1,6 @@
 -- `frame::sum_of` meets its contract. Assumes nothing.
 use mathlib.Core.Path.{ap}
 use Prim.Native.Nat.{ℕ, ◌+◌, ◌/◌, ◌%◌}
-use borrow.Author.Rules.{rules}
 use Rattle.frame.specs.Frame.{sum_of}
 use Rattle.frame.proofs.sum_of.Goals as goal
 

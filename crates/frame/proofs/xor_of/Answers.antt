@@ -1,10 +1,9 @@
 -- `frame::xor_of` meets its contract: what is left of the slice, from `x` on, gives what the whole gives from 255. Assumes nothing.
-use Prim.Native.Nat.{◌≤◌, ◌-◌}
-use mathlib.Core.Path.{◌≡◌, refl, sym, ◌∙◌}
+use mathlib.Core.Path.{refl, sym, ◌∙◌}
 use native.Mathlib.Numerals.{add-one}
 use native.Mathlib.Omega.{arith}
 use borrow.Author.Rules.{rules}
-use lib.ListN.{length, drop, drop_of_length-le}
+use lib.ListN.{drop_of_length-le}
 use lib.Seq.{drop-cons}
 use Rattle.frame.specs.Frame.{xor_from}
 use Rattle.frame.proofs.xor_of.Goals as goal

@@ -1,6 +1,5 @@
 -- `gather::with_serial` meets its contract: the first wrong of fields 1 to 11, then the serial. Assumes nothing.
 use mathlib.Core.Path.{sym, ◌∙◌}
-use borrow.Author.Tests.{not-true, not-false}
 use Rattle.laws.proofs.Tests.{at}
 use Rattle.codec.specs.Codec.{Got}
 use Rattle.frame.specs.Message.{found}
@@ -8,7 +7,6 @@ use Rattle.record.specs.Record.{record_read}
 use Rattle.record.specs.declared.Record.{Record}
 use Rattle.record.specs.declared.RecordRead.{RecordRead}
 use Rattle.gather.proofs.Laws.{figures_wrong, serial_short, serial_wrong, all_found}
-use borrow.Author.Rules.{rules}
 use Rattle.gather.proofs.with_serial.Goals as goal
 
 abbrev read : Got Record → RecordRead

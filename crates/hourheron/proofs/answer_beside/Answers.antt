@@ -1,5 +1,4 @@
 -- `hourheron::answer_beside` meets its contract, case by case. Assumes nothing.
-use borrow.Author.Rules.{rules}
 use Rattle.laws.proofs.Tests.{at}
 use Rattle.frame.specs.Message.{afterwards}
 use Rattle.hourheron.specs.Takes.{answer_beside}

@@ -2,7 +2,6 @@
 use borrow.Author.Tests.{le-leb, lt-leb}
 use Rattle.refusal.specs.Answer.{unless}
 use Rattle.frame.specs.Message.{room_for}
-use borrow.Author.Rules.{rules}
 use Rattle.hourheron.proofs.answer_room.Goals as goal
 
 pub returns-then-room-width : goal.returns-then-room-width

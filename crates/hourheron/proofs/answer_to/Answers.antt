@@ -1,7 +1,6 @@
 -- `hourheron::answer_to` meets its contract, case by case. Assumes nothing.
 use Rattle.laws.proofs.Tests.{at}
 use Rattle.hourheron.specs.Host.{answer_to}
-use borrow.Author.Rules.{rules}
 use Rattle.hourheron.proofs.answer_to.Goals as goal
 
 pub returns-in-Count : goal.returns-in-Count

@@ -1,7 +1,6 @@
 -- `hourheron::ended` meets its contract: the cutter for what follows is a fresh one. Assumes nothing.
 use mathlib.Core.Bool.{true}
 use mathlib.Core.Path.{ap}
-use borrow.Author.Rules.{rules}
 use Rattle.cutter.specs.declared.Cutter.{Cutter}
 use Rattle.hourheron.specs.Cuts.{cut_with}
 use Rattle.hourheron.proofs.ended.Goals as goal

@@ -1,6 +1,5 @@
 -- `hourheron::handed` meets its contract: what was written becomes an answer, the rest is handed on. Assumes nothing.
 use mathlib.Core.Path.{ap}
-use borrow.Author.Rules.{rules}
 use Rattle.hourheron.specs.Cuts.{cut_with}
 use Rattle.hourheron.specs.declared.Answer.{Answer}
 use Rattle.hourheron.proofs.handed.Goals as goal

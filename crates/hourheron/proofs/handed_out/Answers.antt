@@ -1,6 +1,5 @@
 -- `hourheron::handed_out` meets its contract: what was written becomes an answer, the recorder is handed on. Assumes nothing.
 use mathlib.Core.Path.{ap}
-use borrow.Author.Rules.{rules}
 use Rattle.hourheron.specs.declared.Answer.{Answer}
 use Rattle.hourheron.proofs.handed_out.Goals as goal
 

@@ -4,7 +4,6 @@ use mathlib.Core.Path.{ap, ◌∙◌}
 use Rattle.refusal.specs.Answer.{accepted}
 use Rattle.frame.specs.declared.Sum.{Sum}
 use Rattle.hourheron.specs.Host.{answer_of}
-use borrow.Author.Rules.{rules}
 use Rattle.hourheron.proofs.heron_checksum.Goals as goal
 
 pub returns : goal.returns

@@ -1,6 +1,5 @@
 -- `hourheron::heron_cut_message_value` meets its contract: what the cutter answered is handed on. Assumes nothing.
 use mathlib.Core.Path.{ap, ◌∙◌}
-use borrow.Author.Rules.{rules}
 use Rattle.cutter.specs.Cutter.{cut_of}
 use Rattle.hourheron.specs.Cuts.{cut_to}
 use Rattle.hourheron.proofs.Cuts.{whole_cut}

@@ -1,7 +1,6 @@
 -- `hourheron::heron_new_to_old` meets its contract: what the archive made, handed on. Assumes nothing.
 use Rattle.archive.specs.Archive.{old_line_length, back}
 use Rattle.hourheron.proofs.Answers.{lays_made}
-use borrow.Author.Rules.{rules}
 use Rattle.hourheron.proofs.heron_new_to_old.Goals as goal
 
 pub returns : goal.returns

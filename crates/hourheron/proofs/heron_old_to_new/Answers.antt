@@ -1,7 +1,6 @@
 -- `hourheron::heron_old_to_new` meets its contract: what the archive made, handed on. Assumes nothing.
 use Rattle.archive.specs.Archive.{new_line_length, forward}
 use Rattle.hourheron.proofs.Answers.{lays_made}
-use borrow.Author.Rules.{rules}
 use Rattle.hourheron.proofs.heron_old_to_new.Goals as goal
 
 pub returns : goal.returns

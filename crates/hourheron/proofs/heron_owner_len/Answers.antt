@@ -4,7 +4,6 @@ use Rattle.frame.specs.Message.{afterwards, read_of}
 use Rattle.fixed.specs.Form.{fixed_form}
 use Rattle.hourheron.specs.Host.{told_by, asked_of}
 use Rattle.hourheron.proofs.Answers.{fixed_told}
-use borrow.Author.Rules.{rules}
 use Rattle.hourheron.proofs.heron_owner_len.Tie as tie
 use Rattle.hourheron.proofs.heron_owner_len.Lts as lts
 use Rattle.hourheron.proofs.heron_owner_len.Goals as goal

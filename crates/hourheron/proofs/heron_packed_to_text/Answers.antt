@@ -1,7 +1,6 @@
 -- `hourheron::heron_packed_to_text` meets its contract: what the straight route made, handed on. Assumes nothing.
 use Rattle.transfer.specs.Transfer.{turned, turned_length}
 use Rattle.hourheron.proofs.Answers.{lays_made}
-use borrow.Author.Rules.{rules}
 use Rattle.hourheron.proofs.heron_packed_to_text.Goals as goal
 
 pub returns : goal.returns

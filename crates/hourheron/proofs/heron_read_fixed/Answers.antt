@@ -2,7 +2,6 @@
 use Rattle.frame.specs.Message.{read_of}
 use Rattle.fixed.specs.Form.{fixed_form}
 use Rattle.hourheron.proofs.Answers.{fixed_told}
-use borrow.Author.Rules.{rules}
 use Rattle.hourheron.proofs.heron_read_fixed.Goals as goal
 
 pub returns : goal.returns

@@ -2,7 +2,6 @@
 use Rattle.frame.specs.Message.{read_of}
 use Rattle.record.specs.Forms.{packed_form}
 use Rattle.hourheron.proofs.Answers.{record_told}
-use borrow.Author.Rules.{rules}
 use Rattle.hourheron.proofs.heron_read_packed.Goals as goal
 
 pub returns : goal.returns

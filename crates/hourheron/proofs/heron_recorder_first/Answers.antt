@@ -1,6 +1,5 @@
 -- `hourheron::heron_recorder_first` meets its contract: a start with the first settings. Assumes nothing.
 use mathlib.Core.Path.{ap, ◌∙◌}
-use borrow.Author.Rules.{rules}
 use Rattle.recorder.specs.Recorder.{start_of}
 use Rattle.hourheron.proofs.heron_recorder_first.Goals as goal
 

@@ -1,6 +1,5 @@
 -- `hourheron::heron_recorder_send_value` meets its contract: what the recorder answered is handed on. Assumes nothing.
 use mathlib.Core.Path.{ap, ◌∙◌}
-use borrow.Author.Rules.{rules}
 use Rattle.hourheron.specs.Takes.{send_to}
 use Rattle.hourheron.proofs.heron_recorder_send_value.Goals as goal
 

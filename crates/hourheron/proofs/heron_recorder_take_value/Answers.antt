@@ -1,7 +1,6 @@
 -- `hourheron::heron_recorder_take_value` meets its contract: what the recorder made of the piece is laid and handed on. Assumes nothing.
 use Prim.Native.Nat.{ℕ}
 use mathlib.Core.Path.{ap, ◌∙◌}
-use borrow.Author.Rules.{rules}
 use Rattle.refusal.specs.Answer.{Answer}
 use Rattle.recorder.specs.Recorder.{take_of}
 use Rattle.recorder.specs.declared.Recorded.{Recorded}

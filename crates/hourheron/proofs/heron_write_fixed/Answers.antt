@@ -4,7 +4,6 @@ use Rattle.fixed.specs.Form.{fixed_form}
 use Rattle.fixed.specs.declared.Lens.{Lens}
 use Rattle.hourheron.proofs.Given.{stands_fixed}
 use Rattle.hourheron.proofs.Answers.{writes_given}
-use borrow.Author.Rules.{rules}
 use Rattle.hourheron.proofs.heron_write_fixed.Tie as tie
 use Rattle.hourheron.proofs.heron_write_fixed.Lts as lts
 use Rattle.hourheron.proofs.heron_write_fixed.Goals as goal

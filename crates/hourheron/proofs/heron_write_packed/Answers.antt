@@ -5,7 +5,6 @@ use Rattle.record.specs.Forms.{packed_form}
 use Rattle.record.proofs.Exact.{packed_lowest}
 use Rattle.serial.proofs.Given.{stands_record}
 use Rattle.hourheron.proofs.Answers.{writes_given}
-use borrow.Author.Rules.{rules}
 use Rattle.hourheron.proofs.heron_write_packed.Goals as goal
 
 pub returns : goal.returns

@@ -5,7 +5,6 @@ use Rattle.record.specs.Forms.{text_form}
 use Rattle.record.proofs.Exact.{text_lowest}
 use Rattle.serial.proofs.Given.{stands_record}
 use Rattle.hourheron.proofs.Answers.{writes_given}
-use borrow.Author.Rules.{rules}
 use Rattle.hourheron.proofs.heron_write_text.Goals as goal
 
 pub returns : goal.returns

@@ -1,7 +1,6 @@
 -- `hourheron::lay_fixed` meets its contract: refused as the message was, or laid where there is room. Assumes nothing.
 use mathlib.Core.Path.{refl}
 use Rattle.frame.specs.Message.{afterwards, then_write, then_left}
-use borrow.Author.Rules.{rules}
 use Rattle.hourheron.proofs.lay_fixed.Goals as goal
 
 pub returns-in-Done : goal.returns-in-Done

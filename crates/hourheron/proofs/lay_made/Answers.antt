@@ -1,5 +1,4 @@
 -- `hourheron::lay_made` meets its contract: by the reader that was used. Assumes nothing.
-use borrow.Author.Rules.{rules}
 use Rattle.hourheron.proofs.Takes.{lays_fixed, lays_record}
 use Rattle.hourheron.proofs.lay_made.Goals as goal
 

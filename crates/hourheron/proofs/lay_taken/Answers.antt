@@ -1,6 +1,5 @@
 -- `hourheron::lay_taken` meets its contract: its test is that of the definition. Assumes nothing.
 use mathlib.Core.Path.{refl}
-use borrow.Author.Rules.{rules}
 use Rattle.hourheron.specs.Takes.{take_in, take_left}
 use Rattle.hourheron.proofs.lay_taken.Goals as goal
 

@@ -1,5 +1,4 @@
 -- `hourheron::refuse` meets its contract: the number and the value of the paper. Assumes nothing.
-use borrow.Author.Rules.{rules}
 use Rattle.hourheron.proofs.refuse.Goals as goal
 
 pub returns : goal.returns

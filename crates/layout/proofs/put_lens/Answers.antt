@@ -4,7 +4,6 @@ use native.Mathlib.Omega.{arith}
 use Rattle.laws.specs.Lowest.{lowest_first}
 use Rattle.laws.proofs.OverLaws.{last, next, run}
 use Rattle.layout.specs.Layout.{lens_bytes}
-use borrow.Author.Rules.{rules}
 use Rattle.layout.proofs.put_lens.Goals as goal
 
 pub returns : goal.returns

@@ -1,9 +1,8 @@
 -- `layout::put_numbers` meets its contract: before each turn, what is left to write makes of the memory what the whole write does. Assumes nothing.
-use Prim.Native.Nat.{ℕ, ◌+◌, ◌-◌, ◌*◌, ◌≤◌}
+use Prim.Native.Nat.{ℕ, ◌+◌, ◌*◌, ◌≤◌}
 use mathlib.Core.List.{List}
 use mathlib.Core.Path.{◌≡◌, refl, sym, ap, ◌∙◌}
 use native.Mathlib.Omega.{arith}
-use borrow.Author.Rules.{rules}
 use lib.ListN.{length, drop, drop_of_length-le}
 use Rattle.laws.specs.Over.{over}
 use Rattle.laws.proofs.OverLaws.{length_over, over_none}

@@ -7,7 +7,6 @@ use lib.IntN.{ℤ, pos, negsuc}
 use mir.Syntax.{w32}
 use mir.Val.{to_z, of_z}
 use mir.Facts.{to_z-of_z}
-use borrow.Author.Rules.{rules}
 use Rattle.sign.specs.Sign.{size, below0}
 use Rattle.layout.specs.Layout.{twos}
 use Rattle.layout.proofs.twos_of.Tie as tie

@@ -1,6 +1,5 @@
 -- `line::after_w` meets its contract: each arm tells on which side of the digits its byte is. Assumes nothing.
 use native.Mathlib.Omega.{arith}
-use borrow.Author.Rules.{rules}
 use Rattle.laws.proofs.Range.{inside, below, above}
 use Rattle.line.specs.Command.{after_w}
 use Rattle.line.proofs.after_w.Goals as goal

@@ -1,6 +1,5 @@
 -- `line::command_in` meets its contract: each arm has the number of bytes that its case of `command_in` has. Assumes nothing.
 use mathlib.Core.Path.{sym, ◌∙◌}
-use borrow.Author.Rules.{rules}
 use Rattle.line.proofs.Bytes.{of_one, of_two, of_three, of_other}
 use Rattle.line.proofs.command_in.Goals as goal
 

@@ -1,6 +1,5 @@
 -- `line::three_bytes` meets its contract: its tests are those of `three_bytes`. Assumes nothing.
 use mathlib.Core.Path.{refl}
-use borrow.Author.Rules.{rules}
 use borrow.Author.Tests.{eq-eqb, ne_eqb}
 use Rattle.laws.proofs.Tests.{yes, no}
 use Rattle.line.specs.Command.{three_bytes}

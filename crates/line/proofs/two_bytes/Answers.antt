@@ -1,6 +1,5 @@
 -- `line::two_bytes` meets its contract: its test is the one of `two_bytes`. Assumes nothing.
 use mathlib.Core.Path.{refl}
-use borrow.Author.Rules.{rules}
 use borrow.Author.Tests.{eq-eqb, ne_eqb}
 use Rattle.laws.proofs.Tests.{yes, no}
 use Rattle.line.specs.Command.{two_bytes}

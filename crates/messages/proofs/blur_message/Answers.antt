@@ -6,7 +6,6 @@ use Rattle.laws.proofs.OverLaws.{onto}
 use Rattle.digits.specs.Digits.{digits, decimal}
 use Rattle.state.specs.State.{zeros}
 use Rattle.messages.proofs.Laws.{closed_is}
-use borrow.Author.Rules.{rules}
 use Rattle.messages.proofs.blur_message.Goals as goal
 
 pub returns : goal.returns

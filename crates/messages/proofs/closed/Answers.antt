@@ -2,7 +2,6 @@
 use native.Mathlib.Omega.{arith}
 use Rattle.frame.proofs.Exactly.{ending_short}
 use Rattle.messages.proofs.Laws.{ended}
-use borrow.Author.Rules.{rules}
 use Rattle.messages.proofs.closed.Goals as goal
 
 pub overflow_add-result : goal.overflow_add-result

@@ -11,7 +11,6 @@ use Rattle.units.specs.Measurement.{degrees}
 use Rattle.units.proofs.Degrees.{degrees_long}
 use Rattle.state.specs.State.{zeros, unsent}
 use Rattle.messages.proofs.Laws.{closed_is}
-use borrow.Author.Rules.{rules}
 use Rattle.messages.proofs.degrees_message.Goals as goal
 
 pub returns : goal.returns

@@ -8,7 +8,6 @@ use Rattle.laws.specs.Over.{over}
 use Rattle.digits.specs.Digits.{digits, decimal}
 use Rattle.sign.specs.Sign.{size, below0}
 use Rattle.units.proofs.Degrees.{degrees_cold, degrees_mild, degrees_hot}
-use borrow.Author.Rules.{rules}
 use Rattle.messages.proofs.degrees_of.Tie as tie
 use Rattle.messages.proofs.degrees_of.Lts as lts
 use Rattle.messages.proofs.degrees_of.Goals as goal

@@ -4,7 +4,6 @@ use mathlib.Core.List.{[], ◌∷◌}
 use native.Mathlib.Omega.{arith}
 use Rattle.state.specs.State.{zeros}
 use Rattle.messages.proofs.Laws.{closed_is}
-use borrow.Author.Rules.{rules}
 use Rattle.messages.proofs.letter_message.Goals as goal
 
 pub returns : goal.returns

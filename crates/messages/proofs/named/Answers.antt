@@ -7,7 +7,6 @@ use lib.ListN.{length}
 use Rattle.laws.proofs.OverLaws.{onto}
 use Rattle.state.specs.State.{zeros}
 use Rattle.messages.proofs.Laws.{closed_is}
-use borrow.Author.Rules.{rules}
 use Rattle.messages.proofs.named.Goals as goal
 
 pub returns : goal.returns

@@ -1,15 +1,9 @@
 -- `note::is_note` meets its contract: what was seen and what is left have the whole's answer. Assumes nothing.
-use Prim.Native.Nat.{◌≤◌, ◌-◌}
-use mathlib.Core.Bool.{◌&&◌}
-use mathlib.Core.Path.{◌≡◌, refl, sym, ◌∙◌}
+use mathlib.Core.Path.{refl, sym, ◌∙◌}
 use native.Mathlib.Numerals.{add-one}
 use native.Mathlib.Omega.{arith}
 use borrow.Author.Rules.{rules}
-use lib.Dec.{leb}
-use lib.ListN.{length, drop}
-use Rattle.laws.specs.Every.{every}
 use Rattle.laws.proofs.EveryLaws.{every_next, every_seen}
-use Rattle.note.specs.Note.{note_ok}
 use Rattle.note.proofs.is_note.Goals as goal
 
 pub loop-i-init : goal.loop-i-init

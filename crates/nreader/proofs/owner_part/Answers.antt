@@ -8,7 +8,6 @@ use Rattle.refusal.specs.Answer.{accepted, refused}
 use Rattle.frame.specs.Message.{read_of}
 use Rattle.fixed.specs.Form.{fixed_form}
 use Rattle.nreader.proofs.Owner.{done_is, refused_is, part_by, owner_fits}
-use borrow.Author.Rules.{rules}
 use Rattle.nreader.proofs.owner_part.Tie as tie
 use Rattle.nreader.proofs.owner_part.Lts as lts
 use Rattle.nreader.proofs.owner_part.Goals as goal

@@ -16,7 +16,6 @@ use Rattle.fixed.proofs.Given.{Long, filled_items}
 use Rattle.nreader.specs.Reader.{items_says}
 use Rattle.nreader.specs.declared.Items.{Items}
 use Rattle.nreader.specs.declared.Items.TheVariants as items
-use borrow.Author.Rules.{rules}
 use Rattle.nreader.proofs.read_contents.Goals as goal
 
 module _ (s : List ℕ) {r : Items} (says : items_says s r ≡ fixed_form.parse s) where

@@ -9,7 +9,6 @@ use Rattle.frame.proofs.Answers.{reads_refused, reads_on}
 use Rattle.fixed.specs.Fixed.{fixed_read}
 use Rattle.fixed.specs.Form.{fixed_length, fixed_form}
 use Rattle.fixed.proofs.Exact.{fixed_form_width}
-use borrow.Author.Rules.{rules}
 use Rattle.nreader.proofs.read_fixed.Tie as tie
 use Rattle.nreader.proofs.read_fixed.Lts as lts
 use Rattle.nreader.proofs.read_fixed.Goals as goal

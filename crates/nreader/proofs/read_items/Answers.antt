@@ -4,12 +4,10 @@ use mathlib.Core.List.{List, [], ◌∷◌}
 use mathlib.Core.Path.{◌≡◌, sym, ap, ◌∙◌}
 use Prim.Native.Nat.{ℕ}
 use lib.ListN.{length, take, drop}
-use borrow.Author.Tests.{not-true, not-false}
 use Rattle.codec.specs.Codec.{got, text_behind}
 use Rattle.fixed.specs.Form.{lens_items, fixed_length}
 use Rattle.nreader.specs.Reader.{lens_says, items_says}
 use Rattle.nreader.proofs.Parts.{serial_wrong, owner_wrong, lens_wrong, version_wrong, all_right}
-use borrow.Author.Rules.{rules}
 use Rattle.nreader.proofs.read_items.Tie as tie
 use Rattle.nreader.proofs.read_items.Lts as lts
 use Rattle.nreader.proofs.read_items.Goals as goal

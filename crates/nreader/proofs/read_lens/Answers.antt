@@ -8,7 +8,6 @@ use Rattle.codec.specs.Codec.{got, both, mapped, field_says, read_tagged}
 use Rattle.fixed.specs.Fixed.{kind_ok, letter_ok}
 use Rattle.nreader.specs.Reader.{read_letter, letter_says, lens_says}
 use Rattle.nreader.proofs.Parts.{lens_parts_lem}
-use borrow.Author.Rules.{rules}
 use Rattle.nreader.proofs.read_lens.Tie as tie
 use Rattle.nreader.proofs.read_lens.Lts as lts
 use Rattle.nreader.proofs.read_lens.Goals as goal

@@ -1,8 +1,6 @@
 -- `nreader::read_start` meets its contract: the tag, then the letter. Assumes nothing.
 use mathlib.Core.Path.{sym, ◌∙◌}
-use borrow.Author.Tests.{not-true, not-false}
 use Rattle.nreader.proofs.Letters.{other_tag, other_letter, this_letter}
-use borrow.Author.Rules.{rules}
 use Rattle.nreader.proofs.read_start.Goals as goal
 
 pub returns-then-tag-ne85 : goal.returns-then-tag-ne85

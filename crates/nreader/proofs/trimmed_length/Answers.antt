@@ -1,10 +1,10 @@
 -- `nreader::trimmed_length` meets its contract: what is left to look at has the whole's answer. Assumes nothing.
-use Prim.Native.Nat.{ℕ, suc, ◌-◌, ◌≤◌, ◌<◌}
+use Prim.Native.Nat.{ℕ, suc, ◌-◌, ◌<◌}
 use mathlib.Core.List.{List}
 use mathlib.Core.Path.{◌≡◌, refl, sym, ap, ◌∙◌}
 use native.Mathlib.Omega.{arith}
 use borrow.Author.Tests.{eq-eqb, ne_eqb}
-use lib.ListN.{length, get_or}
+use lib.ListN.{get_or}
 use Rattle.nreader.specs.Reader.{unspaced}
 use borrow.Author.Rules.{rules}
 use Rattle.nreader.proofs.trimmed_length.Goals as goal

@@ -1,11 +1,7 @@
-use Prim.Native.Nat.{ℕ, suc, ◌-◌, ◌≤◌, ◌<◌}
-use mathlib.Core.List.{List}
-use mathlib.Core.Path.{◌≡◌, refl, sym, ap, ◌∙◌}
-use native.Mathlib.Omega.{arith}
-use borrow.Author.Tests.{eq-eqb, ne_eqb}
-use lib.ListN.{length, get_or}
+use Prim.Native.Nat.{◌≤◌}
+use mathlib.Core.Path.{◌≡◌}
+use lib.ListN.{length}
 use Rattle.nreader.specs.Reader.{unspaced}
-use borrow.Author.Rules.{rules}
 use Rattle.nreader.proofs.trimmed_length.Given as goal
 
 abbrev pub invariant-loop-n : goal.invariant-loop-n

@@ -5,7 +5,6 @@ use Rattle.laws.proofs.OverLaws.{last, next, run}
 use Rattle.digits.specs.Digits.{digits}
 use Rattle.fixed.specs.Form.{lens_items}
 use Rattle.nwriter.specs.Parts.{lens_text}
-use borrow.Author.Rules.{rules}
 use Rattle.nwriter.proofs.put_lens.Goals as goal
 
 pub returns : goal.returns

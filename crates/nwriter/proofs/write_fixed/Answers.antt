@@ -4,7 +4,6 @@ use Rattle.refusal.specs.declared.Refusal.TheVariants.{Setting}
 use Rattle.frame.proofs.Answers.{writes_wrong, writes_short, writes_done}
 use Rattle.fixed.specs.Form.{fixed_form, fixed_length}
 use Rattle.fixed.proofs.Exact.{fixed_form_exact, fixed_form_width, fixed_lowest_lem}
-use borrow.Author.Rules.{rules}
 use Rattle.nwriter.proofs.write_fixed.Tie as tie
 use Rattle.nwriter.proofs.write_fixed.Lts as lts
 use Rattle.nwriter.proofs.write_fixed.Goals as goal

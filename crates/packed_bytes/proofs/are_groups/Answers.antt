@@ -1,13 +1,9 @@
 -- `packed_bytes::are_groups` meets its contract: what was seen and what is left have the whole's answer. Assumes nothing.
-use Prim.Native.Nat.{◌≤◌, ◌-◌}
-use mathlib.Core.Bool.{◌&&◌}
-use mathlib.Core.Path.{◌≡◌, refl, sym, ◌∙◌}
+use mathlib.Core.Path.{refl, sym, ◌∙◌}
 use native.Mathlib.Numerals.{add-one}
 use native.Mathlib.Omega.{arith}
 use borrow.Author.Rules.{rules}
-use lib.ListN.{length, drop}
 use Rattle.laws.proofs.EveryLaws.{every_next, every_seen}
-use Rattle.digits.specs.Digits.{are_digits}
 use Rattle.packed_bytes.proofs.Laws.{group_is}
 use Rattle.packed_bytes.proofs.are_groups.Goals as goal
 

@@ -3,7 +3,6 @@ use Prim.Native.Nat.{◌/◌}
 use native.Mathlib.Omega.{arith}
 use lib.Bits.{and_le_r}
 use Rattle.packed_bytes.proofs.Lanes.{pairs_say}
-use borrow.Author.Rules.{rules}
 use Rattle.packed_bytes.proofs.distance_in.Goals as goal
 
 pub overflow_mul-pairs : goal.overflow_mul-pairs

@@ -1,6 +1,5 @@
 -- `packed_bytes::is_front` meets its contract: its fields in order. Assumes nothing.
 use Rattle.packed_bytes.proofs.Right.{front}
-use borrow.Author.Rules.{rules}
 use Rattle.packed_bytes.proofs.is_front.Goals as goal
 
 pub returns : goal.returns

@@ -1,5 +1,4 @@
 -- `packed_bytes::is_number` meets its contract: both of its tests. Assumes nothing.
-use borrow.Author.Rules.{rules}
 use Rattle.packed_bytes.proofs.is_number.Goals as goal
 
 pub returns : goal.returns

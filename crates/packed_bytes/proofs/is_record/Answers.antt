@@ -1,6 +1,5 @@
 -- `packed_bytes::is_record` meets its contract: its groups in order. Assumes nothing.
 use Rattle.packed_bytes.proofs.Right.{whole}
-use borrow.Author.Rules.{rules}
 use Rattle.packed_bytes.proofs.is_record.Goals as goal
 
 pub returns : goal.returns

@@ -9,7 +9,6 @@ use Rattle.frame.proofs.Exactly.{opens}
 use Rattle.record.specs.Forms.{packed_form, packed_length}
 use Rattle.record.proofs.Exact.{packed_form_width}
 use Rattle.packed_bytes.proofs.Right.{got_found}
-use borrow.Author.Rules.{rules}
 use Rattle.packed_bytes.proofs.is_right.Tie as tie
 use Rattle.packed_bytes.proofs.is_right.Lts as lts
 use Rattle.packed_bytes.proofs.is_right.Goals as goal

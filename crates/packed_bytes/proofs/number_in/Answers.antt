@@ -1,6 +1,5 @@
 -- `packed_bytes::number_in` meets its contract: both sides of its test. Assumes nothing.
 use mathlib.Core.Path.{refl}
-use borrow.Author.Rules.{rules}
 use borrow.Author.Tests.{lt-leb, le-leb}
 use Rattle.laws.proofs.Tests.{yes, no}
 use Rattle.packed_bytes.specs.Bytes.{packed_number}

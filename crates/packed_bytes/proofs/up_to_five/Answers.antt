@@ -1,14 +1,13 @@
 -- `packed_bytes::up_to_five` meets its contract: four groups at once, or one by one; before each turn n is what the groups passed say, so that reading on from it reads the whole. Assumes nothing.
-use Prim.Native.Nat.{◌-◌, ◌%◌, ◌^◌, ◌≤◌, ◌<◌}
-use mathlib.Core.Path.{◌≡◌, sym, ◌∙◌}
+use Prim.Native.Nat.{◌%◌, ◌<◌}
+use mathlib.Core.Path.{sym, ◌∙◌}
 use native.Mathlib.Nat.{pow-suc, pow-zero}
 use native.Mathlib.Numerals.{add-one}
 use native.Mathlib.Omega.{arith}
 use borrow.Author.Rules.{rules}
 use lib.Arith.{digits_lt}
-use lib.ListN.{length, get_or, drop}
-use Rattle.packed_bytes.specs.Bytes.{sixes}
-use Rattle.packed_bytes.proofs.Laws.{onward, onward_more, onward_end, grows}
+use lib.ListN.{get_or}
+use Rattle.packed_bytes.proofs.Laws.{onward_more, onward_end, grows}
 use Rattle.packed_bytes.proofs.up_to_five.Goals as goal
 
 pub returns-then-s-eq4 : goal.returns-then-s-eq4

@@ -1,13 +1,8 @@
-use Prim.Native.Nat.{◌-◌, ◌%◌, ◌^◌, ◌≤◌, ◌<◌}
-use mathlib.Core.Path.{◌≡◌, sym, ◌∙◌}
-use native.Mathlib.Nat.{pow-suc, pow-zero}
-use native.Mathlib.Numerals.{add-one}
-use native.Mathlib.Omega.{arith}
-use borrow.Author.Rules.{rules}
-use lib.Arith.{digits_lt}
-use lib.ListN.{length, get_or, drop}
+use Prim.Native.Nat.{◌-◌, ◌^◌, ◌≤◌, ◌<◌}
+use mathlib.Core.Path.{◌≡◌}
+use lib.ListN.{length, drop}
 use Rattle.packed_bytes.specs.Bytes.{sixes}
-use Rattle.packed_bytes.proofs.Laws.{onward, onward_more, onward_end, grows}
+use Rattle.packed_bytes.proofs.Laws.{onward}
 use Rattle.packed_bytes.proofs.up_to_five.Given as goal
 
 abbrev pub invariant-loop-i : goal.invariant-loop-i

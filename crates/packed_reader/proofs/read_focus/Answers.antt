@@ -3,7 +3,6 @@ use native.Mathlib.Omega.{arith}
 use Rattle.digits.specs.Digits.{read_groups}
 use Rattle.codec.proofs.Fields.{untagged, behind_tag}
 use Rattle.record.specs.Record.{top_distance}
-use borrow.Author.Rules.{rules}
 use Rattle.packed_reader.proofs.read_focus.Goals as goal
 
 pub returns-then-s-ne100 : goal.returns-then-s-ne100

@@ -11,7 +11,6 @@ use Rattle.stop.specs.Stop.{read_stop}
 use Rattle.record.specs.Forms.{front_packed}
 use Rattle.gather.specs.Gather.{four_says}
 use Rattle.packed_reader.proofs.Parts.{front_width, front_parts}
-use borrow.Author.Rules.{rules}
 use Rattle.packed_reader.proofs.read_front.Tie as tie
 use Rattle.packed_reader.proofs.read_front.Lts as lts
 use Rattle.packed_reader.proofs.read_front.Goals as goal

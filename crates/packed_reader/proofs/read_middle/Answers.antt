@@ -10,7 +10,6 @@ use Rattle.record.specs.Record.{top_distance}
 use Rattle.record.specs.Forms.{middle_packed}
 use Rattle.gather.specs.Gather.{four_says}
 use Rattle.packed_reader.proofs.Parts.{middle_width, middle_parts}
-use borrow.Author.Rules.{rules}
 use Rattle.packed_reader.proofs.read_middle.Tie as tie
 use Rattle.packed_reader.proofs.read_middle.Lts as lts
 use Rattle.packed_reader.proofs.read_middle.Goals as goal

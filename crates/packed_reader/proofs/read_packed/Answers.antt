@@ -12,7 +12,6 @@ use Rattle.frame.proofs.Answers.{reads_refused, reads_on}
 use Rattle.record.specs.Record.{record_read}
 use Rattle.record.specs.Forms.{packed_length, packed_form}
 use Rattle.record.proofs.Exact.{packed_form_width}
-use borrow.Author.Rules.{rules}
 use Rattle.packed_reader.proofs.read_packed.Tie as tie
 use Rattle.packed_reader.proofs.read_packed.Lts as lts
 use Rattle.packed_reader.proofs.read_packed.Goals as goal

@@ -5,7 +5,6 @@ use Rattle.laws.proofs.OverLaws.{last, next, run}
 use Rattle.digits.specs.Digits.{digits}
 use Rattle.stop.specs.Stop.{pair}
 use Rattle.record.specs.Forms.{front_packed}
-use borrow.Author.Rules.{rules}
 use Rattle.packed_writer.proofs.put_front.Goals as goal
 
 pub returns : goal.returns

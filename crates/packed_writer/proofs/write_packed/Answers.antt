@@ -4,7 +4,6 @@ use Rattle.refusal.specs.declared.Refusal.TheVariants.{Field}
 use Rattle.frame.proofs.Answers.{writes_wrong, writes_short, writes_done}
 use Rattle.record.specs.Forms.{packed_form, packed_length}
 use Rattle.record.proofs.Exact.{packed_form_exact, packed_form_width, packed_lowest}
-use borrow.Author.Rules.{rules}
 use Rattle.packed_writer.proofs.write_packed.Tie as tie
 use Rattle.packed_writer.proofs.write_packed.Lts as lts
 use Rattle.packed_writer.proofs.write_packed.Goals as goal

@@ -14,7 +14,6 @@ use Rattle.reply.specs.Reply.{acted_of}
 use Rattle.port.specs.declared.Port.{Port}
 use Rattle.port.specs.declared.Slotted.{Slotted}
 use Rattle.port.specs.Port.{nobody, freed, begun_with, reply_last, rest_of, answers, act_of}
-use borrow.Author.Rules.{rules}
 use Rattle.port.proofs.act.Goals as goal
 
 -- no reply: the rest, with the waiting place free

@@ -1,6 +1,5 @@
 -- `port::begin` meets its contract. Assumes nothing.
 use Rattle.port.specs.Port.{begun_with}
-use borrow.Author.Rules.{rules}
 use Rattle.port.proofs.begin.Goals as goal
 
 pub returns : goal.returns

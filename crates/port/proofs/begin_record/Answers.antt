@@ -3,7 +3,6 @@ use mathlib.Core.Path.{ap, ◌∙◌}
 use Rattle.state.specs.declared.Message.{Message}
 use Rattle.state.specs.declared.Last.TheVariants as last
 use Rattle.port.specs.Port.{begun_with, begins_record}
-use borrow.Author.Rules.{rules}
 use Rattle.port.proofs.begin_record.Goals as goal
 
 pub returns : goal.returns

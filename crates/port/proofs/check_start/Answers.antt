@@ -6,7 +6,6 @@ use Rattle.laws.proofs.Tests.{yes, no}
 use Rattle.refusal.specs.declared.Refusal.TheVariants as refusal
 use Rattle.refusal.specs.declared.Verdict.TheVariants.{Refused}
 use Rattle.port.specs.Port.{start_verdict}
-use borrow.Author.Rules.{rules}
 use Rattle.port.proofs.check_start.Goals as goal
 
 pub returns-then-lowest-ne0 : goal.returns-then-lowest-ne0

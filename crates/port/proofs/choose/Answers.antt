@@ -4,7 +4,6 @@ use mathlib.Core.Path.{◌≡◌, sym, ap₂, ◌∙◌}
 use Rattle.laws.proofs.Tests.{yes, no}
 use Rattle.rules.specs.Does.{continuous}
 use Rattle.port.specs.Port.{is_reply, choose_of}
-use borrow.Author.Rules.{rules}
 use Rattle.port.proofs.choose.Tie as tie
 use Rattle.port.proofs.choose.Lts as lts
 use Rattle.port.proofs.choose.Goals as goal

@@ -3,7 +3,6 @@ use mathlib.Core.Path.{refl}
 use Rattle.laws.proofs.Tests.{at}
 use Rattle.refusal.specs.declared.Verdict.{Verdict}
 use Rattle.port.specs.Port.{handed}
-use borrow.Author.Rules.{rules}
 use Rattle.port.proofs.handed_by.Goals as goal
 
 pub returns-in-Done : goal.returns-in-Done

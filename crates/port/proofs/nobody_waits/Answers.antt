@@ -2,7 +2,6 @@
 use mathlib.Core.Bool.{false}
 use mathlib.Core.Path.{ap}
 use Rattle.line.specs.declared.Line.{Line}
-use borrow.Author.Rules.{rules}
 use Rattle.port.proofs.nobody_waits.Goals as goal
 
 pub returns : goal.returns

@@ -2,7 +2,6 @@
 use mathlib.Core.Path.{refl, sym, ◌∙◌}
 use Rattle.laws.proofs.Tests.{yes, no}
 use Rattle.port.specs.Port.{rest_of}
-use borrow.Author.Rules.{rules}
 use Rattle.port.proofs.rest.Goals as goal
 
 pub returns-then-is_continuous : goal.returns-then-is_continuous

@@ -4,7 +4,6 @@ use lib.ListN.{get_or}
 use Rattle.port.specs.declared.Port.{Port}
 use Rattle.port.specs.declared.Sent.TheVariants as sent
 use Rattle.port.specs.Port.{send_from}
-use borrow.Author.Rules.{rules}
 use Rattle.port.proofs.send_from.Goals as goal
 
 pub returns : goal.returns

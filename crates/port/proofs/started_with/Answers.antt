@@ -8,7 +8,6 @@ use Rattle.state.specs.declared.Waiting.{Waiting}
 use Rattle.state.specs.State.{unsent}
 use Rattle.rules.proofs.Lengths.{greeting_is}
 use Rattle.port.specs.Port.{started_with}
-use borrow.Author.Rules.{rules}
 use Rattle.port.proofs.started_with.Goals as goal
 
 -- the three parts that calls made

@@ -5,7 +5,6 @@ use Rattle.refusal.specs.declared.Refusal.TheVariants as refusal
 use Rattle.refusal.specs.declared.Verdict.TheVariants.{Done, Refused}
 use Rattle.line.specs.declared.Line.{Line}
 use Rattle.port.specs.Port.{taken_port, taken_of}
-use borrow.Author.Rules.{rules}
 use Rattle.port.proofs.taken.Goals as goal
 
 pub returns-then-waiting : goal.returns-then-waiting

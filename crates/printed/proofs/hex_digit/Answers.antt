@@ -1,5 +1,4 @@
 -- `printed::hex_digit` meets its contract: the branch is the test of `hex_digit`. Assumes nothing.
-use borrow.Author.Rules.{rules}
 use borrow.Author.Tests.{lt-ltb, le-ltb}
 use Rattle.printed.specs.Printed.{hex_digit}
 use Rattle.printed.proofs.hex_digit.Goals as goal

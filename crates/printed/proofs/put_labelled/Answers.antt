@@ -12,7 +12,6 @@ use Rattle.digits.specs.Digits.{decimal}
 use Rattle.digits.proofs.Laws.{length_digits}
 use Rattle.printed.specs.Printed.{LF, width_of, numeral, labelled}
 use Rattle.printed.proofs.Laws.{prints_short, prints_whole}
-use borrow.Author.Rules.{rules}
 use Rattle.printed.proofs.put_labelled.Goals as goal
 
 -- a choice between widths of at most six

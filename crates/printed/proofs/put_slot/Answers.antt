@@ -6,7 +6,6 @@ use Rattle.laws.specs.Over.{over}
 use Rattle.port.specs.declared.Sent.{Sent}
 use Rattle.port.specs.declared.Sent.TheVariants.{Byte, Idle, Refused}
 use Rattle.printed.specs.Printed.{slot_text}
-use borrow.Author.Rules.{rules}
 use Rattle.printed.proofs.put_slot.Goals as goal
 
 dashes : (s : Sent) → ((b : ℕ) → s ≡ Byte b → ⊥) → slot_text s ≡ 45 ∷ 45 ∷ []

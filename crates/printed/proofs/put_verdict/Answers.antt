@@ -6,7 +6,6 @@ use Rattle.refusal.specs.declared.Verdict.{Verdict}
 use Rattle.frame.specs.declared.Wrote.{Wrote}
 use Rattle.printed.specs.Printed.{verdict_text, Prints}
 use Rattle.printed.proofs.Laws.{prints_none}
-use borrow.Author.Rules.{rules}
 use Rattle.printed.proofs.put_verdict.Goals as goal
 
 -- what is printed, by a verdict that is known

@@ -8,7 +8,6 @@ use mir.Val.{SFits}
 use mir.Facts.{to_z-of_z}
 use Rattle.sign.specs.Sign.{size, below0}
 use Rattle.laws.proofs.Tests.{yes, no}
-use borrow.Author.Rules.{rules}
 use Rattle.pupil.proofs.pupil_code.Goals as goal
 
 -- a number of 32 bits is at most 2 ^ 31 from zero

@@ -5,7 +5,6 @@ use mir.Facts.{to_z-of_z}
 use Rattle.laws.specs.Over.{over}
 use Rattle.digits.specs.Digits.{groups}
 use Rattle.pupil.specs.Pupil.{pupil_code, pupil_packed}
-use borrow.Author.Rules.{rules}
 use Rattle.pupil.proofs.put_pupil_packed.Goals as goal
 
 pub returns : goal.returns

@@ -8,13 +8,12 @@ use lib.Dec.{leb}
 use lib.IntN.{ℤ}
 use lib.ListN.{length}
 use mir.Facts.{to_z-of_z}
-use borrow.Author.Tests.{leb-true, leb-false, not-true, not-false}
+use borrow.Author.Tests.{leb-true, leb-false}
 use Rattle.laws.specs.Over.{over}
 use Rattle.laws.proofs.OverLaws.{over_short, onto}
 use Rattle.sign.specs.Sign.{size}
 use Rattle.digits.specs.Digits.{digits, decimal}
 use Rattle.pupil.specs.Pupil.{sign_byte, pupil_text}
-use borrow.Author.Rules.{rules}
 use Rattle.pupil.proofs.put_pupil_text.Tie as tie
 use Rattle.pupil.proofs.put_pupil_text.Lts as lts
 use Rattle.pupil.proofs.put_pupil_text.Goals as goal

@@ -3,7 +3,6 @@ use mathlib.Core.Path.{refl, sym, ◌∙◌}
 use borrow.Author.Tests.{eq-eqb, ne_eqb}
 use Rattle.laws.proofs.Tests.{yes, no, at}
 use Rattle.pupil.specs.Pupil.{code_in, read_pupil_packed}
-use borrow.Author.Rules.{rules}
 use Rattle.pupil.proofs.read_pupil_packed.Goals as goal
 
 pub returns-then-s-ne2 : goal.returns-then-s-ne2

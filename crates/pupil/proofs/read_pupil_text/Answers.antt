@@ -1,9 +1,8 @@
 -- `pupil::read_pupil_text` meets its contract: each `return` is a case of `read_pupil_text`. Assumes nothing.
 use mathlib.Core.Path.{refl, sym, ◌∙◌}
-use borrow.Author.Tests.{eq-eqb, ne_eqb, not-true, not-false}
+use borrow.Author.Tests.{eq-eqb, ne_eqb}
 use Rattle.laws.proofs.Tests.{yes, no, at}
 use Rattle.pupil.specs.Pupil.{signed_in, read_pupil_text}
-use borrow.Author.Rules.{rules}
 use Rattle.pupil.proofs.read_pupil_text.Goals as goal
 
 pub returns-then-s-ne5 : goal.returns-then-s-ne5

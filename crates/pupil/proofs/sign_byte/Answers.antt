@@ -3,7 +3,6 @@ use mathlib.Core.Path.{refl, sym, ap, ◌∙◌}
 use mir.Facts.{to_z-of_z}
 use Rattle.sign.specs.Sign.{below0}
 use Rattle.laws.proofs.Tests.{yes, no}
-use borrow.Author.Rules.{rules}
 use Rattle.pupil.proofs.sign_byte.Goals as goal
 
 pub returns-then-is_below : goal.returns-then-is_below

@@ -1,7 +1,6 @@
 -- `record::lowest_field` meets its contract: the figures, then the serial. Assumes nothing.
 use mathlib.Core.Path.{◌≡◌, sym, ◌∙◌}
 use lib.ListN.{length}
-use borrow.Author.Tests.{not-true, not-false}
 use Rattle.codec.proofs.Texts.{text_fine}
 use Rattle.codec.proofs.Lowest.{some_here, none_here, wrong_last, right_last}
 use Rattle.record.specs.Record.{record_lowest}

@@ -1,7 +1,6 @@
 -- `record::lowest_figure` meets its contract: the first group that has a field out of range. Assumes nothing.
 use Rattle.codec.proofs.Lowest.{some_here, none_here}
 use Rattle.record.specs.Record.{figures_lowest}
-use borrow.Author.Rules.{rules}
 use Rattle.record.proofs.lowest_figure.Goals as goal
 
 pub returns-then-front-ne0 : goal.returns-then-front-ne0

@@ -1,9 +1,8 @@
 -- `record::lowest_front` meets its contract: each `return` is a step of the chain. Assumes nothing.
 use mathlib.Core.Path.{sym, ◌∙◌}
-use borrow.Author.Tests.{le-leb, lt-leb, not-true, not-false}
+use borrow.Author.Tests.{le-leb, lt-leb}
 use Rattle.codec.proofs.Lowest.{wrong_here, right_here, wrong_last, right_last}
 use Rattle.record.specs.Record.{front_lowest}
-use borrow.Author.Rules.{rules}
 use Rattle.record.proofs.lowest_front.Goals as goal
 
 pub returns-then-top-f : goal.returns-then-top-f

@@ -1,5 +1,4 @@
 -- `record::refused_record` meets its contract: its contents are those of `no_record`. Assumes nothing.
-use borrow.Author.Rules.{rules}
 use Rattle.record.proofs.refused_record.Goals as goal
 
 pub returns : goal.returns

@@ -7,7 +7,6 @@ use Rattle.line.proofs.Laws.{command_range}
 use Rattle.state.specs.declared.State.{State}
 use Rattle.rules.specs.Does.{readies, runs, does_in, does}
 use Rattle.reply.specs.Reply.{acted_of}
-use borrow.Author.Rules.{rules}
 use Rattle.reply.proofs.act.Goals as goal
 
 pub running-requires : goal.running-requires

@@ -1,6 +1,5 @@
 -- `reply::answer` meets its contract: one byte beside the source. Assumes nothing.
 use Rattle.reply.proofs.Laws.{answered}
-use borrow.Author.Rules.{rules}
 use Rattle.reply.proofs.answer.Goals as goal
 
 pub returns : goal.returns

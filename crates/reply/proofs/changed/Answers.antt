@@ -1,6 +1,5 @@
 -- `reply::changed` meets its contract: ! beside the source after it. Assumes nothing.
 use Rattle.reply.proofs.Laws.{answered}
-use borrow.Author.Rules.{rules}
 use Rattle.reply.proofs.changed.Goals as goal
 
 pub returns : goal.returns

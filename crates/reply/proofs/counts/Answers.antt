@@ -3,7 +3,6 @@ use mathlib.Core.Path.{refl, ap, ◌∙◌}
 use Rattle.laws.proofs.Tests.{at}
 use Rattle.state.specs.declared.State.{State}
 use Rattle.rules.specs.Does as table
-use borrow.Author.Rules.{rules}
 use Rattle.reply.proofs.counts.Goals as goal
 
 pub returns-in-Ready : goal.returns-in-Ready

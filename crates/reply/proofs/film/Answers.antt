@@ -1,6 +1,5 @@
 -- `reply::film` meets its contract: the blur circle beside the source after it. Assumes nothing.
 use Rattle.reply.proofs.Laws.{answered}
-use borrow.Author.Rules.{rules}
 use Rattle.reply.proofs.film.Goals as goal
 
 pub returns : goal.returns

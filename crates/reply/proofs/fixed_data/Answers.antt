@@ -1,6 +1,5 @@
 -- `reply::fixed_data` meets its contract: the fixed data beside the source. Assumes nothing.
 use Rattle.reply.proofs.Laws.{answered}
-use borrow.Author.Rules.{rules}
 use Rattle.reply.proofs.fixed_data.Goals as goal
 
 pub returns : goal.returns

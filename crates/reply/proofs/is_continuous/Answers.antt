@@ -2,7 +2,6 @@
 use mathlib.Core.Path.{refl}
 use Rattle.laws.proofs.Tests.{at}
 use Rattle.rules.specs.Does.{is_on}
-use borrow.Author.Rules.{rules}
 use Rattle.reply.proofs.is_continuous.Goals as goal
 
 pub returns-in-Off : goal.returns-in-Off

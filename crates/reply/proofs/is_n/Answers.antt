@@ -3,7 +3,6 @@ use mathlib.Core.Path.{refl, sym}
 use Rattle.laws.proofs.Tests.{at}
 use Rattle.rules.specs.Does.{is_n}
 use Rattle.rules.proofs.Rows.{not_n}
-use borrow.Author.Rules.{rules}
 use Rattle.reply.proofs.is_n.Goals as goal
 
 pub returns-in-N : goal.returns-in-N

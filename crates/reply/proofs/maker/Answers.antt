@@ -1,6 +1,5 @@
 -- `reply::maker` meets its contract: the maker's name beside the source. Assumes nothing.
 use Rattle.reply.proofs.Laws.{answered}
-use borrow.Author.Rules.{rules}
 use Rattle.reply.proofs.maker.Goals as goal
 
 pub returns : goal.returns

@@ -8,7 +8,6 @@ use Rattle.state.specs.declared.Source.{Source}
 use Rattle.rules.specs.Does.{with_modes, running_now, replies, readies}
 use Rattle.reply.specs.Reply.{acted_of}
 use Rattle.reply.specs.declared.Acted.{Acted}
-use borrow.Author.Rules.{rules}
 use Rattle.reply.proofs.ready.Goals as goal
 
 -- the answer by the test

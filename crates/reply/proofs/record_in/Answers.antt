@@ -9,7 +9,6 @@ use Rattle.state.specs.declared.Sending.{Sending}
 use Rattle.state.specs.declared.Source.{Source}
 use Rattle.state.specs.State.{unsent}
 use Rattle.rules.specs.Does.{record_is}
-use borrow.Author.Rules.{rules}
 use Rattle.reply.proofs.record_in.Goals as goal
 
 abbrev built : Source → Sending → Message

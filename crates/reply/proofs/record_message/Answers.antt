@@ -1,6 +1,5 @@
 -- `reply::record_message` meets its contract: the record in the form that is sent. Assumes nothing.
 use Rattle.rules.specs.Does.{record_message}
-use borrow.Author.Rules.{rules}
 use Rattle.reply.proofs.record_message.Goals as goal
 
 pub returns : goal.returns

@@ -1,6 +1,5 @@
 -- `reply::record_reply` meets its contract: the record beside the source. Assumes nothing.
 use Rattle.reply.proofs.Laws.{answered}
-use borrow.Author.Rules.{rules}
 use Rattle.reply.proofs.record_reply.Goals as goal
 
 pub returns : goal.returns

@@ -5,7 +5,6 @@ use Rattle.state.specs.declared.Source.{Source}
 use Rattle.rules.specs.Does.{runs}
 use Rattle.reply.specs.Reply.{acted_of}
 use Rattle.reply.specs.declared.Acted.{Acted}
-use borrow.Author.Rules.{rules}
 use Rattle.reply.proofs.running.Goals as goal
 
 abbrev acts : Source → Command → Acted

@@ -1,6 +1,5 @@
 -- `reply::type_name` meets its contract: the name of the type beside the source. Assumes nothing.
 use Rattle.reply.proofs.Laws.{answered}
-use borrow.Author.Rules.{rules}
 use Rattle.reply.proofs.type_name.Goals as goal
 
 pub returns : goal.returns

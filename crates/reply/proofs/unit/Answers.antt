@@ -6,7 +6,6 @@ use Rattle.state.specs.declared.Source.{Source}
 use Rattle.rules.specs.Does.{fixed_with, unit_now, replies}
 use Rattle.reply.specs.Reply.{acted_of}
 use Rattle.reply.specs.declared.Acted.{Acted}
-use borrow.Author.Rules.{rules}
 use Rattle.reply.proofs.unit.Goals as goal
 
 -- the reply by the letter after it

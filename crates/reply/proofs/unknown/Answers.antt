@@ -6,7 +6,6 @@ use Rattle.state.specs.declared.Source.{Source}
 use Rattle.rules.specs.Does.{replies, silent, runs}
 use Rattle.reply.specs.Reply.{acted_of}
 use Rattle.reply.specs.declared.Acted.{Acted}
-use borrow.Author.Rules.{rules}
 use Rattle.reply.proofs.unknown.Goals as goal
 
 -- the answer by the mode

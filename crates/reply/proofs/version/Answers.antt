@@ -1,6 +1,5 @@
 -- `reply::version` meets its contract: the version beside the source. Assumes nothing.
 use Rattle.reply.proofs.Laws.{answered}
-use borrow.Author.Rules.{rules}
 use Rattle.reply.proofs.version.Goals as goal
 
 pub returns : goal.returns

@@ -1,5 +1,4 @@
 -- `runs::event_on` meets its contract. Assumes nothing.
-use borrow.Author.Rules.{rules}
 use Rattle.runs.proofs.event_on.Goals as goal
 
 pub returns : goal.returns

@@ -1,7 +1,6 @@
 -- `runs::is_numbered` meets its contract: by the line's length. Assumes nothing.
 use native.Mathlib.Omega.{arith}
 use Rattle.runs.proofs.Laws.{numbered_short, numbered_long}
-use borrow.Author.Rules.{rules}
 use Rattle.runs.proofs.is_numbered.Goals as goal
 
 pub returns-then-line-lt2 : goal.returns-then-line-lt2

@@ -3,7 +3,6 @@ use mathlib.Core.Path.{refl}
 use Rattle.laws.proofs.Tests.{at}
 use Rattle.connectors.specs.declared.Side.{Side}
 use Rattle.connectors.specs.Connectors.{with_line}
-use borrow.Author.Rules.{rules}
 use Rattle.runs.proofs.with_line.Goals as goal
 
 pub returns-in-Camera : goal.returns-in-Camera

@@ -1,7 +1,6 @@
 -- `serial::record_from` meets its contract. Assumes nothing.
 use mathlib.Core.Path.{ap}
 use Rattle.record.specs.Forms.{with_serial}
-use borrow.Author.Rules.{rules}
 use Rattle.serial.proofs.record_from.Goals as goal
 
 pub returns : goal.returns

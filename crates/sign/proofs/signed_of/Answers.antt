@@ -1,7 +1,6 @@
 -- `sign::signed_of` meets its contract. Assumes nothing.
 use Rattle.sign.proofs.Law.{down_fits, down_is, up_is}
 use native.Mathlib.Omega.{arith}
-use borrow.Author.Rules.{rules}
 use Rattle.sign.proofs.signed_of.Goals as goal
 
 pub overflow_sub-result : goal.overflow_sub-result

@@ -1,8 +1,6 @@
 -- `state::valid_source` meets its contract: a test that fails decides, wherever it stands among the three. Assumes nothing.
 use mathlib.Core.Bool.{Bool, true, false}
 use mathlib.Core.Path.{◌≡◌, sym, ap, ◌∙◌}
-use borrow.Author.Rules.{rules}
-use borrow.Author.Tests.{not-true, not-false}
 use lib.Dec.{eqb}
 use Rattle.laws.proofs.Tests.{and_both, and_fails, and_fails_by, and_goes_by}
 use Rattle.refusal.specs.Answer.{is_done}

@@ -3,8 +3,7 @@ use Prim.Native.Nat.{ℕ, ◌/◌}
 use mathlib.Core.Bool.{true, false}
 use mathlib.Core.Path.{◌≡◌, sym, ◌∙◌}
 use native.Mathlib.Omega.{arith}
-use borrow.Author.Rules.{rules}
-use borrow.Author.Tests.{eq-eqb, ne_eqb, not-true, not-false}
+use borrow.Author.Tests.{eq-eqb, ne_eqb}
 use Rattle.digits.specs.declared.Field.TheVariants.{Value, Wrong}
 use Rattle.stop.specs.Stop.{stop_ok, stop_in, read_stop}
 use Rattle.stop.proofs.read_stop.Goals as goal

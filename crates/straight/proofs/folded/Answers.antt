@@ -1,6 +1,5 @@
 -- `straight::folded` meets its contract: each line halves what is left. Assumes nothing.
 use Rattle.straight.proofs.Xor.{folds}
-use borrow.Author.Rules.{rules}
 use Rattle.straight.proofs.folded.Goals as goal
 
 pub returns : goal.returns

@@ -1,6 +1,5 @@
 -- `straight::number_in` meets its contract: five groups at most have their number. Assumes nothing.
 use mathlib.Core.Path.{◌∙◌}
-use borrow.Author.Rules.{rules}
 use borrow.Author.Tests.{le-leb}
 use Rattle.laws.proofs.Tests.{cond_yes}
 use Rattle.packed_bytes.specs.Bytes.{packed_number}

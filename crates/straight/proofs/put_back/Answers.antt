@@ -9,7 +9,6 @@ use Rattle.pointed.specs.Pointed.{pointed}
 use Rattle.pupil.specs.Pupil.{pupil_text}
 use Rattle.record.specs.Forms.{back_text}
 use Rattle.straight.proofs.Written.{tagged_as, pupil_as}
-use borrow.Author.Rules.{rules}
 use Rattle.straight.proofs.put_back.Goals as goal
 
 pub returns : goal.returns

@@ -1,6 +1,5 @@
 -- `straight::put_contents` meets its contract: nothing of other than 39 bytes or without room, else all of it. Assumes nothing.
 use mathlib.Core.Path.{sym, ap, ◌∙◌}
-use borrow.Author.Rules.{rules}
 use Rattle.laws.specs.Over.{over}
 use Rattle.straight.proofs.Written.{text_in_lem, none_in, no_room}
 use Rattle.straight.proofs.put_contents.Goals as goal

@@ -1,11 +1,9 @@
 -- `straight::put_ending` meets its contract: the checksum, and LF CR on from where it ended. Assumes nothing.
 use Prim.Native.Nat.{ℕ, ◌+◌, ◌≤◌}
 use mathlib.Core.Path.{ap, subst}
-use borrow.Author.Tests.{not-true, not-false}
 use lib.ListN.{length}
 use Rattle.frame.specs.Frame.{ending_width}
 use Rattle.straight.proofs.Xor.{plain_ending, summed_ending}
-use borrow.Author.Rules.{rules}
 use Rattle.straight.proofs.put_ending.Goals as goal
 
 pub returns-then-not-checksum : goal.returns-then-not-checksum

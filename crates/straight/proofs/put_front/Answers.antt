@@ -9,7 +9,6 @@ use Rattle.stop.specs.Stop.{stop, stop_text}
 use Rattle.stop.proofs.Exact.{stop_long}
 use Rattle.record.specs.Forms.{front_text}
 use Rattle.straight.proofs.Written.{tagged_as}
-use borrow.Author.Rules.{rules}
 use Rattle.straight.proofs.put_front.Goals as goal
 
 pub overflow_cast-s : goal.overflow_cast-s

@@ -5,7 +5,6 @@ use Rattle.laws.proofs.OverLaws.{last, next, run}
 use Rattle.digits.specs.Digits.{digits}
 use Rattle.record.specs.Forms.{middle_text}
 use Rattle.straight.proofs.Written.{tagged_as}
-use borrow.Author.Rules.{rules}
 use Rattle.straight.proofs.put_middle.Goals as goal
 
 pub returns : goal.returns

@@ -10,7 +10,6 @@ use Rattle.record.proofs.Exact.{front_text_long}
 use Rattle.text_writer.proofs.Written.{middle_long}
 use Rattle.packed_bytes.specs.Bytes.{packed_record}
 use Rattle.straight.proofs.Written.{back_long, contents_are}
-use borrow.Author.Rules.{rules}
 use Rattle.straight.proofs.put_record.Goals as goal
 
 pub returns : goal.returns

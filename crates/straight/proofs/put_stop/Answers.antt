@@ -6,7 +6,6 @@ use Rattle.laws.specs.Over.{over}
 use Rattle.laws.proofs.OverLaws.{last, next, run}
 use Rattle.digits.specs.Digits.{digits}
 use Rattle.stop.proofs.Exact.{low_text, high_text}
-use borrow.Author.Rules.{rules}
 use Rattle.straight.proofs.put_stop.Goals as goal
 
 pub returns-then-stop-lt100 : goal.returns-then-stop-lt100

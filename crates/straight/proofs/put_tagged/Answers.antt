@@ -5,7 +5,6 @@ use native.Mathlib.Omega.{arith}
 use Rattle.laws.proofs.OverLaws.{last, next, run}
 use Rattle.digits.proofs.Laws.{length_digits}
 use Rattle.straight.proofs.Written.{tag_over}
-use borrow.Author.Rules.{rules}
 use Rattle.straight.proofs.put_tagged.Goals as goal
 
 pub returns-then-width-eq3 : goal.returns-then-width-eq3

@@ -2,7 +2,6 @@
 use Prim.Native.Nat.{ℕ, ◌+◌, ◌*◌}
 use mathlib.Core.Path.{ap₂, ◌∙◌}
 use Rattle.straight.proofs.Xor.{eight_in}
-use borrow.Author.Rules.{rules}
 use Rattle.straight.proofs.word_in.Goals as goal
 
 pub returns : goal.returns

@@ -4,7 +4,6 @@ use mathlib.Core.Path.{sym, ap, ◌∙◌}
 use lib.Bits.{bit_xor}
 use lib.ListN.{get_or}
 use Rattle.straight.proofs.Xor.{two_left}
-use borrow.Author.Rules.{rules}
 use Rattle.straight.proofs.xor_of.Goals as goal
 
 pub returns : goal.returns

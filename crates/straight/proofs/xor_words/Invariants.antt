@@ -1,13 +1,8 @@
-use Prim.Native.Nat.{ℕ, ◌+◌, ◌-◌, ◌*◌, ◌≤◌}
-use mathlib.Core.Path.{◌≡◌, sym, ap, ◌∙◌}
-use native.Mathlib.Omega.{arith}
-use borrow.Author.Rules.{rules}
-use lib.Bits.{bit_xor}
-use lib.ListN.{take, drop}
-use Rattle.laws.specs.Lowest.{from_lowest}
+use Prim.Native.Nat.{◌-◌, ◌*◌, ◌≤◌}
+use mathlib.Core.Path.{◌≡◌}
+use lib.ListN.{drop}
 use Rattle.frame.specs.Frame.{xor_from}
 use Rattle.straight.specs.Words.{together}
-use Rattle.straight.proofs.Xor.{xor_begun, xor_on, xor_end, part_low}
 use Rattle.straight.proofs.xor_words.Given as goal
 
 abbrev pub invariant-loop-i : goal.invariant-loop-i

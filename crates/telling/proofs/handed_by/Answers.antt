@@ -3,7 +3,6 @@ use mathlib.Core.Path.{refl}
 use Rattle.laws.proofs.Tests.{at}
 use Rattle.frame.specs.declared.Wrote.{Wrote}
 use Rattle.telling.specs.Telling.{handed}
-use borrow.Author.Rules.{rules}
 use Rattle.telling.proofs.handed_by.Goals as goal
 
 pub returns-in-Count : goal.returns-in-Count

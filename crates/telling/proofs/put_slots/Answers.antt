@@ -1,8 +1,7 @@
 -- `telling::put_slots` meets its contract: before each turn the slots so far are printed, and those to come make the rest of the line. Assumes nothing.
 use mathlib.Core.Path.{◌≡◌, refl}
 use native.Mathlib.Omega.{arith}
-use borrow.Author.Rules.{rules}
-use Rattle.printed.proofs.Laws.{At, at_start, as_long_lem, one_more, all_told, all_run}
+use Rattle.printed.proofs.Laws.{at_start, as_long_lem, one_more, all_told, all_run}
 use Rattle.telling.proofs.put_slots.Goals as goal
 
 pub loop-left-init : goal.loop-left-init

@@ -1,7 +1,4 @@
-use mathlib.Core.Path.{◌≡◌, refl}
-use native.Mathlib.Omega.{arith}
-use borrow.Author.Rules.{rules}
-use Rattle.printed.proofs.Laws.{At, at_start, as_long_lem, one_more, all_told, all_run}
+use Rattle.printed.proofs.Laws.{At}
 use Rattle.telling.proofs.put_slots.Given as goal
 
 abbrev pub invariant-loop-left : goal.invariant-loop-left

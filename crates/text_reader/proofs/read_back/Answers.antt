@@ -5,7 +5,6 @@ use Rattle.codec.proofs.Fields.{tagged_number, parsed_other}
 use Rattle.record.specs.Forms.{back_text, zoom_text}
 use Rattle.gather.specs.Gather.{three_says}
 use Rattle.text_reader.proofs.Parts.{back_text_width, back_parts}
-use borrow.Author.Rules.{rules}
 use Rattle.text_reader.proofs.read_back.Goals as goal
 
 pub returns-then-s-ne16 : goal.returns-then-s-ne16

@@ -11,7 +11,6 @@ use Rattle.record.specs.declared.RecordRead.{RecordRead}
 use Rattle.record.proofs.Exact.{text_form_width}
 use Rattle.gather.proofs.Laws.{record_found}
 use Rattle.text_reader.proofs.Parts.{front_width, middle_width, back_text_width}
-use borrow.Author.Rules.{rules}
 use Rattle.text_reader.proofs.read_contents.Goals as goal
 
 abbrev read : Got Record → RecordRead

@@ -11,7 +11,6 @@ use Rattle.record.specs.Record.{top_distance}
 use Rattle.record.specs.Forms.{front_text}
 use Rattle.gather.specs.Gather.{four_says}
 use Rattle.text_reader.proofs.Parts.{front_width, front_parts}
-use borrow.Author.Rules.{rules}
 use Rattle.text_reader.proofs.read_front.Tie as tie
 use Rattle.text_reader.proofs.read_front.Lts as lts
 use Rattle.text_reader.proofs.read_front.Goals as goal

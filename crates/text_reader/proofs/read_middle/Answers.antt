@@ -10,7 +10,6 @@ use Rattle.record.specs.Record.{top_distance}
 use Rattle.record.specs.Forms.{middle_text}
 use Rattle.gather.specs.Gather.{four_says}
 use Rattle.text_reader.proofs.Parts.{middle_width, middle_parts}
-use borrow.Author.Rules.{rules}
 use Rattle.text_reader.proofs.read_middle.Tie as tie
 use Rattle.text_reader.proofs.read_middle.Lts as lts
 use Rattle.text_reader.proofs.read_middle.Goals as goal

@@ -2,7 +2,6 @@
 use native.Mathlib.Omega.{arith}
 use Rattle.codec.proofs.Fields.{untagged, behind_tag}
 use Rattle.stop.specs.Stop.{read_stop_text}
-use borrow.Author.Rules.{rules}
 use Rattle.text_reader.proofs.read_stop.Goals as goal
 
 pub returns-then-s-ne116 : goal.returns-then-s-ne116

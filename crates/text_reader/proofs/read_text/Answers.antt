@@ -12,7 +12,6 @@ use Rattle.frame.proofs.Answers.{reads_refused, reads_on}
 use Rattle.record.specs.Record.{record_read}
 use Rattle.record.specs.Forms.{text_length, text_form}
 use Rattle.record.proofs.Exact.{text_form_width}
-use borrow.Author.Rules.{rules}
 use Rattle.text_reader.proofs.read_text.Tie as tie
 use Rattle.text_reader.proofs.read_text.Lts as lts
 use Rattle.text_reader.proofs.read_text.Goals as goal

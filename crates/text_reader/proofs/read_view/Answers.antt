@@ -6,7 +6,6 @@ use Rattle.laws.proofs.Tests.{yes, no}
 use Rattle.codec.specs.Codec.{read_whole}
 use Rattle.codec.proofs.Fields.{untagged, behind_tag}
 use Rattle.pointed.specs.Pointed.{read_pointed}
-use borrow.Author.Rules.{rules}
 use Rattle.text_reader.proofs.read_view.Goals as goal
 
 pub returns-then-s-ne6 : goal.returns-then-s-ne6

@@ -6,7 +6,6 @@ use Rattle.digits.specs.Digits.{digits}
 use Rattle.stop.specs.Stop.{stop}
 use Rattle.stop.proofs.Exact.{stop_long}
 use Rattle.record.specs.Forms.{front_text}
-use borrow.Author.Rules.{rules}
 use Rattle.text_writer.proofs.put_front.Goals as goal
 
 pub returns : goal.returns

@@ -4,7 +4,6 @@ use native.Mathlib.Omega.{arith}
 use Rattle.laws.proofs.OverLaws.{last, next, run}
 use Rattle.digits.specs.Digits.{digits}
 use Rattle.record.specs.Forms.{middle_text}
-use borrow.Author.Rules.{rules}
 use Rattle.text_writer.proofs.put_middle.Goals as goal
 
 pub returns : goal.returns

@@ -4,7 +4,6 @@ use Rattle.refusal.specs.declared.Refusal.TheVariants.{Field}
 use Rattle.frame.proofs.Answers.{writes_wrong, writes_short, writes_done}
 use Rattle.record.specs.Forms.{text_form, text_length}
 use Rattle.record.proofs.Exact.{text_form_exact, text_form_width, text_lowest}
-use borrow.Author.Rules.{rules}
 use Rattle.text_writer.proofs.write_text.Tie as tie
 use Rattle.text_writer.proofs.write_text.Lts as lts
 use Rattle.text_writer.proofs.write_text.Goals as goal

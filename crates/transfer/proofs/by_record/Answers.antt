@@ -6,7 +6,6 @@ use Rattle.record.specs.declared.RecordRead.{RecordRead}
 use Rattle.record.proofs.Told.{told_refused, told_done}
 use Rattle.transfer.specs.Transfer.{turned_length}
 use Rattle.transfer.proofs.Turned.{turned_refused, turned_read, read_fits, written}
-use borrow.Author.Rules.{rules}
 use Rattle.transfer.proofs.by_record.Goals as goal
 
 pub returns-in-Refused : goal.returns-in-Refused

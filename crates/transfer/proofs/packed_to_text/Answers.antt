@@ -2,7 +2,6 @@
 use Prim.Native.Nat.{◌≤◌}
 use mathlib.Core.Path.{◌≡◌, sym, ◌∙◌}
 use native.Mathlib.Omega.{arith}
-use borrow.Author.Tests.{not-true, not-false}
 use lib.ListN.{length, take}
 use lib.Seq.{length-take-le}
 use Rattle.refusal.specs.Answer.{accepted}
@@ -12,7 +11,6 @@ use Rattle.record.specs.Forms.{packed_form, packed_length}
 use Rattle.packed_bytes.specs.Bytes.{packed_record}
 use Rattle.packed_bytes.proofs.Right.{accepted_so}
 use Rattle.transfer.proofs.Turned.{turned_read, read_long}
-use borrow.Author.Rules.{rules}
 use Rattle.transfer.proofs.packed_to_text.Tie as tie
 use Rattle.transfer.proofs.packed_to_text.Lts as lts
 use Rattle.transfer.proofs.packed_to_text.Goals as goal

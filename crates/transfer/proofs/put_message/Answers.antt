@@ -9,7 +9,6 @@ use Rattle.text_writer.proofs.Written.{record_long}
 use Rattle.packed_bytes.specs.Bytes.{packed_record}
 use Rattle.straight.proofs.Written.{text_in_lem}
 use Rattle.transfer.proofs.Turned.{put_short, put_done}
-use borrow.Author.Rules.{rules}
 use Rattle.transfer.proofs.put_message.Tie as tie
 use Rattle.transfer.proofs.put_message.Lts as lts
 use Rattle.transfer.proofs.put_message.Goals as goal

@@ -17,7 +17,6 @@ use Rattle.record.proofs.Exact.{text_lowest, packed_lowest}
 use Rattle.packed_bytes.specs.Bytes.{packed_record}
 use Rattle.packed_bytes.proofs.Right.{written_says}
 use Rattle.transfer.proofs.Turned.{unwritten}
-use borrow.Author.Rules.{rules}
 use Rattle.transfer.proofs.record_to_text.Goals as goal
 
 pub returns-then-lowest-ne0 : goal.returns-then-lowest-ne0

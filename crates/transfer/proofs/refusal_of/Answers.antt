@@ -10,7 +10,6 @@ use Rattle.record.specs.declared.RecordRead.{RecordRead}
 use Rattle.record.proofs.Told.{told_refused, told_done}
 use Rattle.transfer.specs.Transfer.{turned_length}
 use Rattle.transfer.proofs.Turned.{turned_refused}
-use borrow.Author.Rules.{rules}
 use Rattle.transfer.proofs.refusal_of.Goals as goal
 
 pub returns-in-Refused : goal.returns-in-Refused

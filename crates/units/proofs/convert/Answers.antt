@@ -4,8 +4,7 @@ use mathlib.Core.Bool.{true, false, ◌&&◌, ◌||◌}
 use mathlib.Core.Path.{◌≡◌, refl, sym, ap, ◌∙◌}
 use lib.IntN.{ℤ}
 use mir.Facts.{to_z-of_z}
-use borrow.Author.Rules.{rules}
-use borrow.Author.Tests.{ne_eqb, not-true, not-false}
+use borrow.Author.Tests.{ne_eqb}
 use Rattle.laws.proofs.Tests.{no, and_fails, and_fails_by}
 use Rattle.refusal.specs.Answer.{accepted, unless}
 use Rattle.refusal.specs.declared.Refusal.TheVariants.{Field}

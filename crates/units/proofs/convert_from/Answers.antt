@@ -6,7 +6,6 @@ use mir.Syntax.{w32}
 use mir.Val.{to_z, of_z}
 use mir.Facts.{to_z-of_z}
 use borrow.Author.Rules.{rules}
-use borrow.Author.Tests.{not-true, not-false}
 use Rattle.laws.proofs.Tests.{yes, no}
 use Rattle.refusal.specs.Answer.{accepted, unless}
 use Rattle.refusal.specs.declared.Refusal.TheVariants.{Field}

@@ -4,7 +4,6 @@ use mathlib.Core.Path.{◌≡◌, sym, ap, ◌∙◌}
 use native.Mathlib.Omega.{arith}
 use mir.Syntax.{w32}
 use mir.Facts.{to_z-of_z, to_z_pos}
-use borrow.Author.Rules.{rules}
 use Rattle.sign.specs.Sign.{size, signed_of}
 use Rattle.units.specs.Units.{size_in, number_in}
 use Rattle.units.proofs.Ranges.{size_bound}

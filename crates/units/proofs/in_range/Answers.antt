@@ -5,8 +5,7 @@ use lib.Dec.{leb}
 use mir.Syntax.{w32}
 use mir.Val.{to_z, of_z}
 use mir.Facts.{to_z-of_z}
-use borrow.Author.Rules.{rules}
-use borrow.Author.Tests.{eq-eqb, ne_eqb, not-true, not-false}
+use borrow.Author.Tests.{eq-eqb, ne_eqb}
 use Rattle.laws.proofs.Tests.{yes, no, and_fails, and_goes}
 use Rattle.sign.specs.Sign.{size, below0}
 use Rattle.units.specs.Units.{in_range}

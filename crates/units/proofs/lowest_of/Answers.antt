@@ -4,7 +4,6 @@ use mir.Syntax.{w32}
 use mir.Val.{to_z, of_z}
 use mir.Facts.{to_z-of_z}
 use borrow.Author.Rules.{rules}
-use borrow.Author.Tests.{not-true, not-false}
 use Rattle.codec.proofs.Lowest.{some_here, none_here, wrong_last, right_last}
 use Rattle.record.specs.Record.{figures_lowest}
 use Rattle.units.specs.Units.{top_in, most_in}

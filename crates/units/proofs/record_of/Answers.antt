@@ -1,6 +1,5 @@
 -- `units::record_of` meets its contract: the figures are what the call answers. Assumes nothing.
 use mathlib.Core.Path.{ap}
-use borrow.Author.Rules.{rules}
 use Rattle.record.specs.declared.Figures.{Figures}
 use Rattle.record.specs.declared.Record.{Record}
 use Rattle.units.specs.Measurement.{record_in}

@@ -1,6 +1,5 @@
 -- `units::shown_distance` meets its contract: a return for each case. Assumes nothing.
 use mathlib.Core.Path.{refl}
-use borrow.Author.Rules.{rules}
 use borrow.Author.Tests.{le-leb, lt-leb}
 use Rattle.laws.proofs.Tests.{yes, no}
 use Rattle.units.specs.Measurement.{shown_distance}

@@ -2,7 +2,6 @@
 use mathlib.Core.Path.{refl}
 use native.Mathlib.Omega.{arith}
 use borrow.Author.Tests.{eq-eqb, ne_eqb}
-use borrow.Author.Rules.{rules}
 use Rattle.laws.proofs.Tests.{yes, no}
 use Rattle.units.specs.Units.{by_unit, size_in}
 use Rattle.units.proofs.Reciprocal.{reciprocal}

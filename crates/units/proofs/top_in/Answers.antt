@@ -1,5 +1,4 @@
 -- `units::top_in` meets its contract: one case of `by_unit` for each letter. Assumes nothing.
-use borrow.Author.Rules.{rules}
 use Rattle.units.proofs.top_in.Goals as goal
 
 pub returns : goal.returns

@@ -10,7 +10,6 @@ use Rattle.connectors.specs.declared.FilledAt.{FilledAt}
 use Rattle.connectors.specs.declared.Named.{Named}
 use Rattle.connectors.specs.Connectors.{fill_in, fill_leaves_in}
 use Rattle.connectors.proofs.Laws.{named_port}
-use borrow.Author.Rules.{rules}
 use Rattle.connectors.proofs.Connectors.fill.Goals as goal
 
 abbrev of : Filled → Connectors → FilledAt

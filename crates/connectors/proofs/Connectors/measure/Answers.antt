@@ -9,7 +9,6 @@ use Rattle.connectors.specs.declared.HandedAt.{HandedAt}
 use Rattle.connectors.specs.declared.Named.{Named}
 use Rattle.connectors.specs.Connectors.{measure_in}
 use Rattle.connectors.proofs.Laws.{named_port}
-use borrow.Author.Rules.{rules}
 use Rattle.connectors.proofs.Connectors.measure.Goals as goal
 
 abbrev of : Handed → Connectors → HandedAt

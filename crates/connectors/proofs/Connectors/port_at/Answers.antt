@@ -1,7 +1,6 @@
 -- `Connectors::port_at` meets its contract: side by side. Assumes nothing.
 use Rattle.laws.proofs.Tests.{at}
 use Rattle.connectors.specs.Connectors.{port_at}
-use borrow.Author.Rules.{rules}
 use Rattle.connectors.proofs.Connectors.port_at.Goals as goal
 
 pub returns-in-Camera : goal.returns-in-Camera

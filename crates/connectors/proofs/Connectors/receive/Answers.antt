@@ -9,7 +9,6 @@ use Rattle.connectors.specs.declared.Named.{Named}
 use Rattle.connectors.specs.declared.ReceivedAt.{ReceivedAt}
 use Rattle.connectors.specs.Connectors.{receive_in}
 use Rattle.connectors.proofs.Laws.{named_port}
-use borrow.Author.Rules.{rules}
 use Rattle.connectors.proofs.Connectors.receive.Goals as goal
 
 abbrev of : Received → Connectors → ReceivedAt

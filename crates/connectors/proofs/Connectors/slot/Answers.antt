@@ -7,7 +7,6 @@ use Rattle.connectors.specs.declared.Connectors.{Connectors}
 use Rattle.connectors.specs.declared.SlottedAt.{SlottedAt}
 use Rattle.connectors.specs.Connectors.{slot_in}
 use Rattle.connectors.proofs.Laws.{named_port}
-use borrow.Author.Rules.{rules}
 use Rattle.connectors.proofs.Connectors.slot.Goals as goal
 
 abbrev of : Slotted → Connectors → SlottedAt

@@ -12,7 +12,6 @@ use Rattle.connectors.specs.declared.Lines.{Lines}
 use Rattle.connectors.specs.declared.Side.TheVariants.{Camera, External}
 use Rattle.connectors.specs.declared.StartedBoth.{StartedBoth}
 use Rattle.connectors.specs.Connectors.{own_of, with_port, first_refused, both_verdict, started_by, start_both}
-use borrow.Author.Rules.{rules}
 use Rattle.connectors.proofs.Connectors.start.Goals as goal
 
 module _ (old : Connectors) (lines : Lines) where

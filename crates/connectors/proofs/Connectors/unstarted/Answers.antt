@@ -3,7 +3,6 @@ use mathlib.Core.Path.{ap, ◌∙◌}
 use Rattle.port.specs.declared.Port.{Port}
 use Rattle.connectors.specs.declared.Connector.{Connector}
 use Rattle.connectors.specs.Connectors.{own_of}
-use borrow.Author.Rules.{rules}
 use Rattle.connectors.proofs.Connectors.unstarted.Goals as goal
 
 pub returns : goal.returns

@@ -4,7 +4,6 @@ use Rattle.laws.proofs.Tests.{at}
 use Rattle.connectors.specs.declared.Connector.{Connector}
 use Rattle.connectors.specs.declared.Side.{Side}
 use Rattle.connectors.specs.Connectors.{with_port}
-use borrow.Author.Rules.{rules}
 use Rattle.connectors.proofs.Connectors.with_port.Goals as goal
 
 pub returns-in-Camera : goal.returns-in-Camera

@@ -1,8 +1,6 @@
 -- `cutter::Cutter::end_in` meets its contract: its tests are those of `end_in`; nothing held, there is no LF before the piece. Assumes nothing.
 use mathlib.Core.Bool.{Bool}
 use mathlib.Core.Path.{refl, sym, ap, ◌∙◌}
-use borrow.Author.Rules.{rules}
-use borrow.Author.Tests.{not-true, not-false}
 use Rattle.laws.proofs.Tests.{yes, no}
 use Rattle.cutter.specs.Cutter.{after_lf, end_from, end_in}
 use Rattle.cutter.proofs.Cutter.end_in.Goals as goal

@@ -1,13 +1,11 @@
 -- `cutter::Cutter::held` meets its contract: the bytes copied and those left make the same cutter; what is too long is not copied. Assumes nothing.
-use Prim.Native.Nat.{ℕ, ◌+◌, ◌-◌, ◌≤◌, ◌<◌}
-use mathlib.Core.List.{List}
+use Prim.Native.Nat.{ℕ, ◌+◌, ◌<◌}
 use mathlib.Core.Logic.{⊎_elim}
 use mathlib.Core.Path.{◌≡◌, refl, sym, ap, ◌∙◌}
 use native.Mathlib.Omega.{arith}
 use borrow.Author.Rules.{rules}
 use lib.ListN.{length, get_or, drop, set, length-set}
 use Rattle.cutter.specs.Cutter.{cutter_length, zeros, too_many, held_from}
-use Rattle.cutter.specs.declared.Cutter.{Cutter}
 use Rattle.cutter.proofs.Laws.{held_room, held_none, held_many}
 use Rattle.cutter.proofs.Cutter.held.Invariants.{kept}
 use Rattle.cutter.proofs.Cutter.held.Goals as goal

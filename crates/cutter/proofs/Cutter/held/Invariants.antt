@@ -1,13 +1,9 @@
-use Prim.Native.Nat.{ℕ, ◌+◌, ◌-◌, ◌≤◌, ◌<◌}
+use Prim.Native.Nat.{ℕ, ◌+◌, ◌-◌, ◌≤◌}
 use mathlib.Core.List.{List}
-use mathlib.Core.Logic.{⊎_elim}
-use mathlib.Core.Path.{◌≡◌, refl, sym, ap, ◌∙◌}
-use native.Mathlib.Omega.{arith}
-use borrow.Author.Rules.{rules}
-use lib.ListN.{length, get_or, drop, set, length-set}
-use Rattle.cutter.specs.Cutter.{cutter_length, zeros, too_many, held_from}
+use mathlib.Core.Path.{◌≡◌}
+use lib.ListN.{length, drop}
+use Rattle.cutter.specs.Cutter.{cutter_length, held_from}
 use Rattle.cutter.specs.declared.Cutter.{Cutter}
-use Rattle.cutter.proofs.Laws.{held_room, held_none, held_many}
 use Rattle.cutter.proofs.Cutter.held.Given as goal
 
 abbrev pub kept : List ℕ → ℕ → Cutter

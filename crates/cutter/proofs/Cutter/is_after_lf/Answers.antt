@@ -1,6 +1,5 @@
 -- `cutter::Cutter::is_after_lf` meets its contract: its tests are those of `after_lf`. Assumes nothing.
 use mathlib.Core.Path.{refl}
-use borrow.Author.Rules.{rules}
 use borrow.Author.Tests.{eq-eqb, ne_eqb, le-leb, lt-leb}
 use Rattle.laws.proofs.Tests.{yes, no}
 use Rattle.cutter.specs.Cutter.{after_lf}

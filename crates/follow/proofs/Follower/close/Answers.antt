@@ -2,11 +2,9 @@
 use mathlib.Core.Bool.{true}
 use mathlib.Core.List.{append-nil}
 use mathlib.Core.Path.{◌≡◌, sym, ap, ◌∙◌}
-use borrow.Author.Tests.{not-true, not-false}
 use Rattle.runs.specs.Runs.{event_at}
 use Rattle.follow.specs.Follow.{valid_follower, held_in}
 use Rattle.follow.proofs.Laws.{valid_text_lem, close_16, close_none, close_line}
-use borrow.Author.Rules.{rules}
 use Rattle.follow.proofs.Follower.close.Tie as tie
 use Rattle.follow.proofs.Follower.close.Lts as lts
 use Rattle.follow.proofs.Follower.close.Goals as goal

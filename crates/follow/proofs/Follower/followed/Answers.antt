@@ -4,7 +4,6 @@ use Rattle.laws.proofs.Tests.{at}
 use Rattle.frame.specs.declared.Wrote.TheVariants.{Count}
 use Rattle.follow.specs.Follow.{followed_as}
 use Rattle.follow.specs.declared.Text.{Text}
-use borrow.Author.Rules.{rules}
 use Rattle.follow.proofs.Follower.followed.Goals as goal
 
 pub returns-in-Count : goal.returns-in-Count

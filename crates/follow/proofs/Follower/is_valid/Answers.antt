@@ -1,5 +1,4 @@
 -- `follow::Follower::is_valid` meets its contract. Assumes nothing.
-use borrow.Author.Rules.{rules}
 use Rattle.follow.proofs.Follower.is_valid.Goals as goal
 
 pub returns : goal.returns

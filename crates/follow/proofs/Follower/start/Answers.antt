@@ -1,5 +1,4 @@
 -- `follow::Follower::start` meets its contract. Assumes nothing.
-use borrow.Author.Rules.{rules}
 use Rattle.follow.proofs.Follower.start.Goals as goal
 
 pub returns : goal.returns

@@ -3,7 +3,6 @@ use Prim.Native.Nat.{ℕ, ◌+◌, ◌-◌}
 use mathlib.Core.Bool.{true}
 use mathlib.Core.Path.{◌≡◌, sym, ap, ap₂, ◌∙◌}
 use native.Mathlib.Omega.{arith}
-use borrow.Author.Tests.{not-true, not-false}
 use lib.ListN.{take}
 use Rattle.frame.specs.declared.Wrote.TheVariants.{Count}
 use Rattle.capture.specs.Words.{before}
@@ -12,7 +11,6 @@ use Rattle.printed.specs.Printed.{LF}
 use Rattle.follow.specs.Follow.{valid_follower, event_in, followed_by}
 use Rattle.follow.specs.declared.Text.{Text}
 use Rattle.follow.proofs.Laws.{valid_text_lem, take_16, take_hold, take_line}
-use borrow.Author.Rules.{rules}
 use Rattle.follow.proofs.Follower.take.Tie as tie
 use Rattle.follow.proofs.Follower.take.Lts as lts
 use Rattle.follow.proofs.Follower.take.Goals as goal

@@ -1,8 +1,7 @@
 -- `follow::Text::joined` meets its contract: what is left of the part joins what has joined so far. Assumes nothing.
-use Prim.Native.Nat.{◌+◌, ◌-◌, ◌≤◌}
-use mathlib.Core.Path.{◌≡◌, refl, sym, ap, ◌∙◌}
+use Prim.Native.Nat.{◌+◌, ◌≤◌}
+use mathlib.Core.Path.{refl, sym, ap, ◌∙◌}
 use native.Mathlib.Omega.{arith}
-use borrow.Author.Rules.{rules}
 use lib.ListN.{length, drop, drop_of_length-le}
 use Rattle.follow.specs.Follow.{joined_text}
 use Rattle.follow.specs.declared.Text.{Text}

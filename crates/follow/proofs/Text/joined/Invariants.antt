@@ -1,11 +1,7 @@
-use Prim.Native.Nat.{◌+◌, ◌-◌, ◌≤◌}
-use mathlib.Core.Path.{◌≡◌, refl, sym, ap, ◌∙◌}
-use native.Mathlib.Omega.{arith}
-use borrow.Author.Rules.{rules}
-use lib.ListN.{length, drop, drop_of_length-le}
+use Prim.Native.Nat.{◌-◌, ◌≤◌}
+use mathlib.Core.Path.{◌≡◌}
+use lib.ListN.{length, drop}
 use Rattle.follow.specs.Follow.{joined_text}
-use Rattle.follow.specs.declared.Text.{Text}
-use Rattle.follow.proofs.Laws.{joins_kept, joined_full, joined_next}
 use Rattle.follow.proofs.Text.joined.Given as goal
 
 abbrev pub invariant-loop-i : goal.invariant-loop-i

@@ -1,6 +1,5 @@
 -- `line::Line::joined` meets its contract: its test is the one of `joined`. Assumes nothing.
 use mathlib.Core.Path.{refl}
-use borrow.Author.Rules.{rules}
 use borrow.Author.Tests.{lt-ltb, le-ltb}
 use Rattle.laws.proofs.Tests.{yes, no}
 use Rattle.line.specs.Line.{joined}

@@ -1,8 +1,6 @@
 -- `Port::is_valid` meets its contract: the message and the line that waits, then the source. Assumes nothing.
 use mathlib.Core.Bool.{◌&&◌}
 use mathlib.Core.Path.{◌≡◌, sym, ap₂, ◌∙◌}
-use borrow.Author.Rules.{rules}
-use borrow.Author.Tests.{not-true, not-false}
 use Rattle.laws.proofs.Tests.{and_fails_by, and_goes_by}
 use Rattle.line.specs.Line.{valid_line}
 use Rattle.state.specs.State.{valid_message, valid_source}

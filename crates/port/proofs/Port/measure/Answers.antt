@@ -1,10 +1,8 @@
 -- `Port::measure` meets its contract: 16, then what the verdict on the measurement hands back. Assumes nothing.
 use mathlib.Core.Path.{refl, sym, ap, ◌∙◌}
-use borrow.Author.Tests.{not-true, not-false}
 use Rattle.laws.proofs.Tests.{yes, no}
 use Rattle.refusal.specs.declared.Verdict.{Verdict}
 use Rattle.port.specs.Port.{handed, measured_port, measure_of}
-use borrow.Author.Rules.{rules}
 use Rattle.port.proofs.Port.measure.Goals as goal
 
 pub returns-then-not-is_valid : goal.returns-then-not-is_valid

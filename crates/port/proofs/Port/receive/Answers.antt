@@ -1,13 +1,11 @@
 -- `Port::receive` meets its contract: 16 for the port or the line, then the carriage return, else the byte joins. Assumes nothing.
 use mathlib.Core.Bool.{◌&&◌}
 use mathlib.Core.Path.{◌≡◌, refl, sym, ap, ap₂, ◌∙◌}
-use borrow.Author.Tests.{not-true, not-false}
 use Rattle.laws.proofs.Tests.{yes, no}
 use Rattle.refusal.specs.declared.Verdict.TheVariants.{Done}
 use Rattle.line.specs.declared.Line.{Line}
 use Rattle.line.specs.Line.{valid_line}
 use Rattle.port.specs.Port.{valid_port, receive_of}
-use borrow.Author.Rules.{rules}
 use Rattle.port.proofs.Port.receive.Tie as tie
 use Rattle.port.proofs.Port.receive.Lts as lts
 use Rattle.port.proofs.Port.receive.Goals as goal

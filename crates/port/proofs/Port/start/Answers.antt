@@ -6,7 +6,6 @@ use Rattle.port.specs.declared.Handed.{Handed}
 use Rattle.port.specs.declared.Port.{Port}
 use Rattle.port.specs.declared.Started.{Started}
 use Rattle.port.specs.Port.{handed, line_by, start_of}
-use borrow.Author.Rules.{rules}
 use Rattle.port.proofs.Port.start.Goals as goal
 
 -- a start of what was handed back and a line

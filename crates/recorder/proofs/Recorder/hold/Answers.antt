@@ -1,8 +1,6 @@
 -- `recorder::Recorder::hold` meets its contract: its test is that of `hold_of`. Assumes nothing.
 use mathlib.Core.Bool.{false}
 use mathlib.Core.Path.{sym, ap, ap₂, ◌∙◌}
-use borrow.Author.Rules.{rules}
-use borrow.Author.Tests.{not-true, not-false}
 use lib.ListN.{length}
 use Rattle.laws.proofs.Tests.{yes, no}
 use Rattle.cutter.specs.declared.Cutter.{Cutter}

@@ -1,7 +1,6 @@
 -- `recorder::Recorder::make` meets its contract: its test is that of `reading_of`. Assumes nothing.
 use mathlib.Core.Bool.{true, false}
 use mathlib.Core.Path.{sym, ap, ap₂, ◌∙◌}
-use borrow.Author.Rules.{rules}
 use Rattle.record.specs.declared.Record.{Record}
 use Rattle.record.specs.declared.RecordRead.{RecordRead}
 use Rattle.fixed.specs.declared.Fixed.{Fixed}

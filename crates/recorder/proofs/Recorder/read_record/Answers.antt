@@ -1,6 +1,5 @@
 -- `recorder::Recorder::read_record` meets its contract: the form is the one that the settings name. Assumes nothing.
 use mathlib.Core.Path.{sym, ◌∙◌}
-use borrow.Author.Rules.{rules}
 use Rattle.recorder.specs.Recorder.{record_ending}
 use Rattle.recorder.proofs.Recorder.read_record.Goals as goal
 

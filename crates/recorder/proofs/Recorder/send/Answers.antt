@@ -1,8 +1,6 @@
 -- `recorder::Recorder::send` meets its contract: its tests are those of `send_of`. Assumes nothing.
 use mathlib.Core.Path.{sym, ◌∙◌}
 use native.Mathlib.Omega.{arith}
-use borrow.Author.Rules.{rules}
-use borrow.Author.Tests.{not-true, not-false}
 use Rattle.recorder.proofs.Sends.{send_invalid, send_nothing, send_short, send_asking}
 use Rattle.recorder.proofs.Recorder.send.Goals as goal
 

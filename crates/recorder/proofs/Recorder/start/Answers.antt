@@ -1,7 +1,6 @@
 -- `recorder::Recorder::start` meets its contract. Assumes nothing.
 use mathlib.Core.Bool.{false}
 use mathlib.Core.Path.{ap}
-use borrow.Author.Rules.{rules}
 use Rattle.cutter.specs.declared.Cutter.{Cutter}
 use Rattle.recorder.proofs.Recorder.start.Goals as goal
 

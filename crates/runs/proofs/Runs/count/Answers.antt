@@ -1,9 +1,7 @@
 -- `runs::Runs::count` meets its contract: 16, then the number printed. Assumes nothing.
 use mathlib.Core.Path.{refl, sym, ◌∙◌}
-use borrow.Author.Tests.{not-true, not-false}
 use Rattle.laws.proofs.Tests.{yes, no}
 use Rattle.runs.specs.Runs.{count_both, count_both_leaves}
-use borrow.Author.Rules.{rules}
 use Rattle.runs.proofs.Runs.count.Goals as goal
 
 pub returns-then-not-is_valid : goal.returns-then-not-is_valid

@@ -1,6 +1,5 @@
 -- `runs::Runs::is_valid` meets its contract. Assumes nothing.
 use Rattle.runs.specs.Runs.{valid_runs}
-use borrow.Author.Rules.{rules}
 use Rattle.runs.proofs.Runs.is_valid.Goals as goal
 
 pub returns : goal.returns

@@ -1,5 +1,4 @@
 -- `runs::Runs::run_at` meets its contract. Assumes nothing.
-use borrow.Author.Rules.{rules}
 use Rattle.runs.proofs.Runs.run_at.Goals as goal
 
 pub returns : goal.returns

@@ -1,6 +1,5 @@
 -- `runs::Runs::start` meets its contract: the parts are those of the connectors' start. Assumes nothing.
 use Rattle.runs.specs.Runs.{start_runs}
-use borrow.Author.Rules.{rules}
 use Rattle.runs.proofs.Runs.start.Goals as goal
 
 pub returns : goal.returns

@@ -1,6 +1,5 @@
 -- `runs::Runs::tell` meets its contract: the run of the event's port, told and put back. Assumes nothing.
 use Rattle.runs.proofs.Laws.{told_at_lem}
-use borrow.Author.Rules.{rules}
 use Rattle.runs.proofs.Runs.tell.Goals as goal
 
 pub returns : goal.returns

@@ -1,5 +1,4 @@
 -- `runs::Runs::with_run` meets its contract. Assumes nothing.
-use borrow.Author.Rules.{rules}
 use Rattle.runs.proofs.Runs.with_run.Goals as goal
 
 pub returns : goal.returns

@@ -1,9 +1,7 @@
 -- `telling::Run::count` meets its contract. Assumes nothing.
 use mathlib.Core.Path.{refl, sym, ◌∙◌}
-use borrow.Author.Tests.{not-true, not-false}
 use Rattle.laws.proofs.Tests.{yes, no}
 use Rattle.telling.specs.Telling.{count_of, count_leaves}
-use borrow.Author.Rules.{rules}
 use Rattle.telling.proofs.Run.count.Goals as goal
 
 pub returns-then-not-is_valid : goal.returns-then-not-is_valid

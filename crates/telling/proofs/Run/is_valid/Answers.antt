@@ -1,6 +1,5 @@
 -- `telling::Run::is_valid` meets its contract. Assumes nothing.
 use Rattle.telling.specs.Telling.{valid_run}
-use borrow.Author.Rules.{rules}
 use Rattle.telling.proofs.Run.is_valid.Goals as goal
 
 pub returns : goal.returns

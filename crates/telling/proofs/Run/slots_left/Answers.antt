@@ -1,7 +1,6 @@
 -- `telling::Run::slots_left` meets its contract: each branch is a test of `slots_left`. Assumes nothing.
 use borrow.Author.Tests.{le-leb, lt-leb, lt-ltb, le-ltb}
 use Rattle.telling.specs.Telling.{last_slot, slots_left}
-use borrow.Author.Rules.{rules}
 use Rattle.telling.proofs.Run.slots_left.Goals as goal
 
 pub returns-then-self-ge-LAST_SLOT : goal.returns-then-self-ge-LAST_SLOT

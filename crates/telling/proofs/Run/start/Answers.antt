@@ -1,6 +1,5 @@
 -- `telling::Run::start` meets its contract: the parts are those of the port's start. Assumes nothing.
 use Rattle.telling.specs.Telling.{start_with}
-use borrow.Author.Rules.{rules}
 use Rattle.telling.proofs.Run.start.Goals as goal
 
 pub returns : goal.returns

@@ -3,13 +3,11 @@ use Prim.Native.Nat.{ℕ}
 use mathlib.Core.Bool.{true, false}
 use mathlib.Core.List.{List}
 use mathlib.Core.Path.{◌≡◌, sym, subst, ◌∙◌}
-use borrow.Author.Tests.{not-true, not-false}
 use Rattle.laws.specs.Gives.{Gives}
 use Rattle.capture.specs.declared.Event.{Event}
 use Rattle.telling.specs.Telling.{valid_run, is_over, tells, Tells, told_of, told_leaves}
 use Rattle.telling.specs.declared.Told.{Told}
 use Rattle.telling.proofs.Laws.{tell_16, tell_over, tell_on}
-use borrow.Author.Rules.{rules}
 use Rattle.telling.proofs.Run.tell.Tie as tie
 use Rattle.telling.proofs.Run.tell.Lts as lts
 use Rattle.telling.proofs.Run.tell.Goals as goal

@@ -2,7 +2,6 @@
 use Rattle.capture.specs.declared.Event.TheVariants as event
 use Rattle.telling.specs.Telling.{tells}
 use Rattle.telling.proofs.Laws.{told_by_lem}
-use borrow.Author.Rules.{rules}
 use Rattle.telling.proofs.Run.tell_measured.Goals as goal
 
 pub returns : goal.returns

@@ -11,7 +11,6 @@ use Rattle.printed.specs.Printed.{slots_text, after_slots}
 use Rattle.telling.specs.Telling.{tells}
 use Rattle.printed.proofs.Laws.{length_slots, prints_short, prints_whole}
 use Rattle.telling.proofs.Laws.{told_by_lem, slots_fit}
-use borrow.Author.Rules.{rules}
 use Rattle.telling.proofs.Run.tell_slots.Goals as goal
 
 pub returns-then-out-need : goal.returns-then-out-need
