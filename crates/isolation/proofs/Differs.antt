@@ -32,7 +32,7 @@ use Rattle.state.specs.declared.Source.{Source}
 use Rattle.state.specs.declared.State.{State as RunState}
 use Rattle.state.specs.declared.State.TheVariants.{Running}
 use Rattle.rules.specs.Does.{relettered, replies, silent, runs, is_n, readies, does_in, does, counts_in, counts, is_on}
-use Rattle.rules.specs.Lens.{by-y, elsewhere, lens}
+use Rattle.rules.specs.Lens.{by_y, elsewhere, lens}
 use Rattle.port.specs.Port.{unit_of, started_port}
 use Rattle.walk.specs.View.{view}
 use Rattle.walk.specs.Calls.{Held, view_of, events_all}
@@ -70,7 +70,7 @@ external = received 0x4E ∷ received CR ∷ (replicate 70 slot ++ received 0x59
 
 record Runs : Type 0 where
   with_b : sent (start lens source) camera ≡ saying 0x42
-  with_turn : sent (start lens source) (given (elsewhere by-y) ∷ camera) ≡ saying 0x62
+  with_turn : sent (start lens source) (given (elsewhere by_y) ∷ camera) ≡ saying 0x62
   acts : acted (start lens source) external ≡ joined blank 0x4E ∷ []
   acts_last : acted (run (start lens source) external) (slot ∷ []) ≡ joined blank 0x59 ∷ []
   running : (modes (run (start lens source) external)).modes.state ≡ Running
@@ -163,14 +163,14 @@ module _ (h : Both) where
   unfolding view
   running = ap (λ (z : State lens). (modes z).modes.state) external_runs ∙ computed.running
 
-  turns : turn_by x slots_once ≡ some by-y
+  turns : turn_by x slots_once ≡ some by_y
   unfolding acted_all events_all turns_in turn_of
   turns =
       let e = (port-answers.answers).acted_is x (one.slots_once ∷ []) (from_start External (after_all begun woken) (from woken tt)) in
       let ls : acted_by x one.slots_once ≡ joined blank 0x59 ∷ [] = sym (append-nil _) ∙ e ∙ ap (λ (z : State lens). acted z (slot ∷ [])) external_runs ∙ computed.acts_last in
       ap (turn_on x) ls ∙ ap (λ (k : RunState). turns_in k (joined blank 0x59)) running ∙ ap turn_of computed.is_y
 
-  camera_sees : seen_at Camera begun (woken ++ on 1 slots_once ∷ own) ≡ one.turn by-y ∷ seen_at Camera (after (after_all begun woken) (on 1 slots_once)) own
+  camera_sees : seen_at Camera begun (woken ++ on 1 slots_once ∷ own) ≡ one.turn by_y ∷ seen_at Camera (after (after_all begun woken) (on 1 slots_once)) own
   unfolding seen_at side_of own_calls
   camera_sees =
       let ds = seen_at Camera (after (after_all begun woken) (on 1 slots_once)) own in

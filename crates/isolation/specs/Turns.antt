@@ -8,11 +8,11 @@ use Rattle.line.specs.declared.Command.TheVariants.{B, C, D, G, H, Ka, Kb, Kc, K
 use Rattle.state.specs.declared.State.{State}
 use Rattle.state.specs.declared.State.TheVariants.{Ready, Running}
 use Rattle.rules.specs.Does.{letter_now}
-use Rattle.rules.specs.Lens.{Turn, by_x, by-y, turns_to}
+use Rattle.rules.specs.Lens.{Turn, by_x, by_y, turns_to}
 
 unfoldable pub turn_of : Command → Option Turn
 turn_of X = some by_x
-turn_of Y = some by-y
+turn_of Y = some by_y
 turn_of B = none
 turn_of C = none
 turn_of D = none

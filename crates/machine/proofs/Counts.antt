@@ -10,7 +10,7 @@ use mathlib.Core.List.{List, [], ◌∷◌}
 use lib.ListN.{length}
 use Rattle.laws.proofs.Tests.{told}
 use Rattle.laws.proofs.Tests.{never}
-use Rattle.machine.specs.Machine.{Rules, Kind, neither, a_record, a-reply, reply_kind, Event, slot, slots, Events, listed, State, modes, waiting, underway, last, Out, begins, owed, sent_one, next, run, start, acted_in}
+use Rattle.machine.specs.Machine.{Rules, Kind, neither, a_record, a_reply, reply_kind, Event, slot, slots, Events, listed, State, modes, waiting, underway, last, Out, begins, owed, sent_one, next, run, start, acted_in}
 use Rattle.machine.specs.Promised.{Sizes}
 use Rattle.machine.proofs.Slot.{acting, goes, owes, answers, flows, rests}
 use Rattle.machine.proofs.Step.{Stepped, by_slot, taking, dropping, growing, noting, stepped}
@@ -19,13 +19,13 @@ use Rattle.machine.proofs.Step.{Stepped, by_slot, taking, dropping, growing, not
 abbrev pub then_record : ℕ → Kind → ℕ
 then_record R neither = 0
 then_record R a_record = 0
-then_record R a-reply = R
+then_record R a_reply = R
 
 -- before a record: the rest of the message under way, and a reply, unless one was sent last
 abbrev pub then_reply : ℕ → Kind → ℕ
 then_reply L neither = L
 then_reply L a_record = L
-then_reply L a-reply = 0
+then_reply L a_reply = 0
 
 module _ {r : Rules} where
   open r use {Modes, Command, Given, continuous, act, counts}
@@ -103,7 +103,7 @@ module _ {r : Rules} where
     owed_counted : (m : Modes) (k : Kind) → owed r m k ≡ true → then_record R k ≡ R
     owed_counted m neither h = absurd (false≢true h)
     owed_counted m a_record h = absurd (false≢true h)
-    owed_counted m a-reply h = refl
+    owed_counted m a_reply h = refl
 
     pub toward_act : {s s' : State r} {e : Event Given} {o : Out r} (c : Command) → Stepped s e s' o → Kept Good W s → waiting s ≡ some c
         → Acts c e o ⊎ Waits R c s s' e o
@@ -121,7 +121,7 @@ module _ {r : Rules} where
     not_reply : (m : Modes) (k : Kind) → owed r m k ≡ false → continuous m ≡ true → then_reply L k ≡ L
     not_reply m neither n on = refl
     not_reply m a_record n on = refl
-    not_reply m a-reply n on = absurd (true≢false (sym on ∙ n))
+    not_reply m a_reply n on = absurd (true≢false (sym on ∙ n))
 
     sent_one_same : (m : Modes) (bs : List ℕ) → Good m → continuous (sent_one r m bs) ≡ continuous m
     sent_one_same m [] g = ended_same m g

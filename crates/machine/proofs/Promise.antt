@@ -8,7 +8,7 @@ use mathlib.Core.Option.{Option, none, some}
 use mathlib.Core.List.{List, [], ◌∷◌, ◌++◌, append-nil, append_assoc}
 use lib.ListN.{length}
 use Rattle.laws.proofs.Tests.{never}
-use Rattle.machine.specs.Machine.{Rules, Kind, neither, a_record, a-reply, Event, slot, slots, Events, listed, State, Out, took, begins, rules, on_slot, port, modes, waiting, underway, next, shows, run, start, taken_in, acted_in, taken, acted}
+use Rattle.machine.specs.Machine.{Rules, Kind, neither, a_record, a_reply, Event, slot, slots, Events, listed, State, Out, took, begins, rules, on_slot, port, modes, waiting, underway, next, shows, run, start, taken_in, acted_in, taken, acted}
 use Rattle.machine.specs.Promised.{Sizes, ByRules, ActedBy, RepliedBy, RecordBy, StaysOn, Theorem}
 use Rattle.machine.proofs.Slot.{slotted, given_starts, idle_for}
 use Rattle.machine.proofs.Step.{Stepped, stepped, takes, drops, drops_only, queue, reply_starts}
@@ -60,13 +60,13 @@ module _ {r : Rules} {Good : r.Modes → Type 0} {W L R : ℕ} (fits : Sizes r G
   ahead_bound : (s : State r) → Kept Good W s → ahead R s < W + R
   ahead_bound (port m w u neither l) h = omega arith
   ahead_bound (port m w u a_record l) h = omega arith
-  ahead_bound (port m w u a-reply l) h = omega arith
+  ahead_bound (port m w u a_reply l) h = omega arith
 
   -- with none under way, a reply may come before the record
   gap_bound : (s : State r) → underway s ≡ [] → gap L s ≤ L
   gap_bound (port m w u neither l) z = omega (arith, ap length z)
   gap_bound (port m w u a_record l) z = omega (arith, ap length z)
-  gap_bound (port m w u a-reply l) z = omega (arith, ap length z)
+  gap_bound (port m w u a_reply l) z = omega (arith, ap length z)
 
   acted_by_lem : (s : State r) (c : Command) (es : Events r) → Kept Good W s → waiting s ≡ some c → W + R ≤ slots es → ActedBy (W + R) s c es
   acted_by_lem s c es h w n =

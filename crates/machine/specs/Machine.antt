@@ -31,10 +31,10 @@ pub record Rules : Type 1 where
 
 -- What was sent last: it changes when a message starts. A record is one that continuous sending starts.
 pub data Kind : Type 0 where
-  neither a_record a-reply : Kind
+  neither a_record a_reply : Kind
 
 abbrev pub reply_kind : Bool → Kind
-reply_kind true = a-reply
+reply_kind true = a_reply
 reply_kind false = neither
 
 -- the modes, the waiting command, the bytes left of the message under way ([]: none is), what was sent last, the line
@@ -71,7 +71,7 @@ module _ (r : Rules) where
   abbrev pub owed : Modes → Kind → Bool
   owed m neither = false
   owed m a_record = false
-  owed m a-reply = continuous m
+  owed m a_reply = continuous m
 
   -- 3. Still nothing and continuous sending on: a record starts. 4. Else the slot is idle. (`a` is the command that rule 2 acted on, if one waited.)
   unfoldable pub rule3 : Option Command → Modes → Choice r

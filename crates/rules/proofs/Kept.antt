@@ -28,7 +28,7 @@ use Rattle.state.specs.declared.State.TheVariants.{Ready, Running}
 use Rattle.state.specs.declared.Sending.TheVariants as sending
 use Rattle.state.specs.State.{valid_source}
 use Rattle.rules.specs.Does.{Outcome, with_modes, film_now, rate_next, rate_moved, unit_with, relettered, letter_now, is_on, continuous, replies, silent, runs, is_n, wakes, readies, does_in, does, counts_in, counts}
-use Rattle.rules.specs.Lens.{Turn, by_x, by-y, turns_to, turned, Given, measurement, elsewhere, measured, with_given, Good, longest_reply}
+use Rattle.rules.specs.Lens.{Turn, by_x, by_y, turns_to, turned, Given, measurement, elsewhere, measured, with_given, Good, longest_reply}
 use Rattle.rules.proofs.Valid.{Valid, done_is, valid_told, valid_made, untouched_valid}
 use Rattle.rules.specs.Rows.{Others}
 use Rattle.rules.proofs.Rows.{untouched, rows}
@@ -162,7 +162,7 @@ measured_valid s m v =
 turns_to_letter : (t : Turn) → letter_ok (turns_to t) ≡ true
 unfolding letter_ok
 turns_to_letter by_x = refl
-turns_to_letter by-y = refl
+turns_to_letter by_y = refl
 
 -- in the other direction too: a letter turned elsewhere makes no source valid or invalid
 pub turned_same : (t : Turn) (s : Source) → valid_source (turned t s) ≡ valid_source s

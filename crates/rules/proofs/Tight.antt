@@ -10,7 +10,7 @@ use lib.Dec.{leb}
 use borrow.Author.Tests.{leb-true, leb-false}
 use Rattle.laws.specs.Every.{every}
 use Rattle.laws.proofs.Tests.{told, never}
-use Rattle.machine.specs.Machine.{Rules, Kind, a_record, a-reply, Events, received, slot, State, modes, Out, grew, took, dropped, noted, sends, begins, idles, next, shows, sent_in, sent, seen, on_slot, begin, rules, rule2, answer, rule3, on_byte, on_return, on_other}
+use Rattle.machine.specs.Machine.{Rules, Kind, a_record, a_reply, Events, received, slot, State, modes, Out, grew, took, dropped, noted, sends, begins, idles, next, shows, sent_in, sent, seen, on_slot, begin, rules, rule2, answer, rule3, on_byte, on_return, on_other}
 use Rattle.machine.specs.Promised.{Promised, ActedBy, RepliedBy}
 use Rattle.machine.proofs.Use.{kinds_in, all_on, acted_first, record_seen, stays_on}
 use Rattle.codec.specs.Codec.{failing, first, text_ok}
@@ -39,7 +39,7 @@ too_few = replicate (record_by - 1) slot
 
 record Between : Type 0 where
   still_on : all_on (later (act_by - 1)) too_few ≡ true
-  not_sooner : seen kinds_in (later (act_by - 1)) too_few ≡ a-reply ∷ []
+  not_sooner : seen kinds_in (later (act_by - 1)) too_few ≡ a_reply ∷ []
 
 computed : Attained × Between
 unfolding on_slot begin rules rule2 answer rule3 on_byte on_return on_other digits ending pointed stop_text stop pupil_text front_text middle_text back_text serial text_form fixedSerial owner fixedLens version fixed_form shown_distance shown_pupil figures_in record_in ends joined zeros one_byte command_in command_of replies runs is_n readies does_in does counts_in counts record_is record_message is_on
@@ -116,7 +116,7 @@ not_soon n k h p =
     (p.replied_in_time early (replicate (reply_by - 1) slot) (received CR) second_d attained.taken (omega arith) (acted_then n h) some_reply)
 
 -- after the record they send the reply
-only_reply : (x y : List Kind) → ◌≡◌ {A = List Kind} (a-reply ∷ []) (x ++ a_record ∷ y) → ⊥
+only_reply : (x y : List Kind) → ◌≡◌ {A = List Kind} (a_reply ∷ []) (x ++ a_record ∷ y) → ⊥
 only_reply [] y e = never (cc)
 only_reply (k ∷ []) y e = omega (arith, ap length e)
 only_reply (k ∷ k' ∷ x) y e = omega (arith, ap length e)

@@ -17,7 +17,7 @@ use Rattle.rules.specs.Does.{with_modes, rate_moved, letter_now, does, counts, c
 
 -- the commands that turn the start-up letter, B or b: X and Y
 pub data Turn : Type 0 where
-  by_x by-y : Turn
+  by_x by_y : Turn
 
 -- what is handed to the port between slots: a new measurement; and the turn that the other connector of a box made
 pub data Given : Type 0 where
@@ -31,7 +31,7 @@ measured s m = cond (is_done (measurement_verdict m)) (record { settings = s.set
 -- the letter that B or b becomes, here and elsewhere
 abbrev pub turns_to : Turn → ℕ
 turns_to by_x = 66
-turns_to by-y = 98
+turns_to by_y = 98
 
 -- X or Y elsewhere: the start-up letter, and nothing else
 abbrev pub turned : Turn → Source → Source

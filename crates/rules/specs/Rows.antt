@@ -18,7 +18,7 @@ use Rattle.state.specs.declared.Sending.{Sending}
 use Rattle.state.specs.declared.Sending.TheVariants as sending
 use Rattle.state.specs.declared.Source.{Source}
 use Rattle.rules.specs.Does.{runs, readies}
-use Rattle.rules.specs.Lens.{start_modes, Turn, by_x, by-y, measurement, elsewhere, lens}
+use Rattle.rules.specs.Lens.{start_modes, Turn, by_x, by_y, measurement, elsewhere, lens}
 
 -- what no switch touches
 pub record Untouched (s t : Source) : Type 0 where
@@ -84,7 +84,7 @@ module _ (s : Source) where
         lens.update s (measurement m) ≡ record { settings = s.settings; measurement = m; modes = s.modes }
     -- "X or Y on one port changes a B or b that the other's N shows, and nothing else there": the settings become what X or Y would make of them here
     pub x_elsewhere : (lens.update s (elsewhere by_x)).settings ≡ (runs s X).source.settings
-    pub y_elsewhere : (lens.update s (elsewhere by-y)).settings ≡ (runs s Y).source.settings
+    pub y_elsewhere : (lens.update s (elsewhere by_y)).settings ≡ (runs s Y).source.settings
     pub elsewhere_keeps : (t : Turn) → others (lens.update s (elsewhere t)) ≡ others s
     pub elsewhere_switches : (t : Turn) → switches (lens.update s (elsewhere t)) ≡ switches s
     -- ---- in ready

@@ -1,6 +1,6 @@
 -- No bound of demand 3 is too large: document 01's bench lens, from its start, meets each in its last slot.
 use Rattle.std.specs.Prelude.{ℕ, ◌+◌, ◌-◌, true, false, [], ◌∷◌, ◌++◌, ◌≡◌, length, replicate}
-use Rattle.machine.specs.Machine.{a_record, a-reply, received, slot, Events, State, modes, underway, last, took, start, next, shows, run, acted_in, acted}
+use Rattle.machine.specs.Machine.{a_record, a_reply, received, slot, Events, State, modes, underway, last, took, start, next, shows, run, acted_in, acted}
 use Rattle.machine.specs.Promised.{Promised}
 use Rattle.frame.specs.Frame.{ending_width}
 use Rattle.fixed.specs.Form.{fixed_length}
@@ -55,7 +55,7 @@ pub record Attained : Type 0 where
   -- a record's last byte left in the 155th slot; the first of the next leaves in the 234th, 79 slots later
   pub record_left : length (underway (later (act_by - 2))) ≡ 1
   pub record_gone : (underway (later (act_by - 1)) ≡ []) × (last (later (act_by - 1)) ≡ a_record)
-  pub record_next : (last (later (act_by - 1 + record_by - 1)) ≡ a-reply) × (last (later (act_by - 1 + record_by)) ≡ a_record)
+  pub record_next : (last (later (act_by - 1 + record_by - 1)) ≡ a_reply) × (last (later (act_by - 1 + record_by)) ≡ a_record)
 
 -- so that no promise with a smaller number holds of this lens, which demand 3 speaks of
 pub record Tight : Type 0 where

@@ -1,7 +1,7 @@
 -- A port and its line seen as a state of the paper's machine.
 use Rattle.std.specs.Prelude.{ℕ, true, cond, List, [], ◌∷◌, take, drop}
 use Rattle.std.proofs.Math.Option.{Option, none, some}
-use Rattle.machine.specs.Machine.{Kind, neither, a_record, a-reply, State, port}
+use Rattle.machine.specs.Machine.{Kind, neither, a_record, a_reply, State, port}
 use Rattle.line.specs.declared.Line.{Line}
 use Rattle.state.specs.declared.Last.{Last}
 use Rattle.state.specs.declared.Last.TheVariants as last
@@ -15,7 +15,7 @@ use Rattle.port.specs.declared.Sent.TheVariants as sent
 abbrev pub kind_of : Last → Kind
 kind_of last.Neither = neither
 kind_of last.Record = a_record
-kind_of last.Reply = a-reply
+kind_of last.Reply = a_reply
 
 -- the command that waits, if one does
 abbrev pub waits_of : Waiting → Option Line
