@@ -10,7 +10,7 @@ import time
 from ports import ANSWERS, asked, beside, greeted, letters
 from talk import END, PATIENCE, RECORD, ROOT, Talk, Wrong, commands, continuous, timed
 
-PROGRAM = [os.path.join(ROOT, "tools", "x86-64"), "run", os.path.join(ROOT, "target", "bin", "driver")]
+PROGRAM = [os.path.join(ROOT, "tools", "x86-64"), "run", os.path.join(ROOT, "crates", "driver", "out", "driver")]
 # demand 3: the last byte of a reply leaves at or before this slot after the carriage return
 REPLY_GONE = 233
 
