@@ -56,7 +56,7 @@ def proved_bounds():
 # The table of rates: of each rate number the bits a second, and the three bounds as times. And the number at a start.
 def rate_table():
     table = subprocess.run([ROOT / "tools/slot-times"], stdout=subprocess.PIPE, check=True, text=True).stdout
-    start = re.search(r"^startModes .* rate = (\d);", (ROOT / LENS).read_text(), re.M) or fail(f"no rate in {LENS}")
+    start = re.search(r"^start_modes .* rate = (\d);", (ROOT / LENS).read_text(), re.M) or fail(f"no rate in {LENS}")
     rows = re.findall(r"^\| (\d) \| (\d+) \|[^|]*\| (\S+ ms) \| (\S+ ms) \| (\S+ ms) \|", table, re.M)
     return {n: (int(bits), tuple(times)) for n, bits, *times in rows}, start[1]
 
