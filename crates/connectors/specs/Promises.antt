@@ -51,9 +51,9 @@ pub record UnknownSame : Type 0 where
 -- ---- on a port
 
 -- what a side has of its own
-abbrev pub field_own : Connectors → Side → Connector
-field_own b Camera = b.camera
-field_own b External = b.external
+abbrev pub own_at : Connectors → Side → Connector
+own_at b Camera = b.camera
+own_at b External = b.external
 
 abbrev pub opposite : Side → Side
 opposite Camera = External
@@ -63,7 +63,7 @@ opposite External = Camera
 pub record Became (b : Connectors) (a : Side) (p : Port) (after : Connectors) : Type 0 where
   pub port : port_at after a ≡ p
   pub settings : after.settings ≡ p.source.settings
-  pub other : field_own after (opposite a) ≡ field_own b (opposite a)
+  pub other : own_at after (opposite a) ≡ own_at b (opposite a)
 
 -- "Each port has its own line, waiting place, modes, unit, film, measurement, rate and slots", "Shared are fixed data and the start-up letter": a port
 -- that a number names answers what the base's port does over the shared settings, and becomes the port that it hands back

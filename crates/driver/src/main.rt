@@ -33,7 +33,7 @@ use std::{io, thread};
 // The slots of a turn on an input that waits.
 const MOST: usize = 400;
 
-// The room for an argument; a longer one is no word that the program knows.
+// The room for an argument; a longer one counts as none.
 const WORD_LENGTH: usize = 4096;
 
 // The port and its collector.

@@ -29,7 +29,7 @@ const INPUT_LENGTH: usize = 65536;
 
 const LONGEST_TEXT: usize = 2997;
 
-// The room for an argument; a longer one is no word that the program knows.
+// The room for an argument; a longer one counts as none.
 const WORD_LENGTH: usize = 4096;
 
 // The follower, how many bytes of the output are unwritten, and whether more of the input is taken.
