@@ -11,7 +11,8 @@ use lib.ListN.{length, length-replicate, length-take, get_or, take, drop}
 use lib.Seq.{length-take-le, take_all, take-length}
 use Rattle.laws.proofs.Tests.{told, cond_yes, cond_no, and_both, and_fails_by}
 use Rattle.note.specs.Note.{longest_note, note_ok}
-use Rattle.append.specs.Append.{appended, zeros, holding, valid_note, did, left, set_by, after_o, noted_by}
+use Rattle.std.specs.Prelude.{None, Some}
+use Rattle.append.specs.Append.{appended, zeros, holding, valid_note, set_by, after_o, noted_by}
 use Rattle.append.specs.declared.Note.{Note}
 
 pub zeros_long : length zeros ≡ longest_note
@@ -55,25 +56,25 @@ module _ (n : Note) where
 -- ---- the bytes of a line
 
 module _ (n : Note) where
-  pub set_does : (s : List ℕ) → n.opened ≡ true → note_ok s ≡ true → set_by n s ≡ did (holding s)
+  pub set_does : (s : List ℕ) → n.opened ≡ true → note_ok s ≡ true → set_by n s ≡ Some (holding s)
   unfolding set_by
   set_does s o h = cond_yes _ _ (and_both o h)
 
-  pub set_closed : (s : List ℕ) → n.opened ≡ false → set_by n s ≡ left n
+  pub set_closed : (s : List ℕ) → n.opened ≡ false → set_by n s ≡ None
   unfolding set_by
   set_closed s o = cond_no _ _ (ap (λ (t : Bool). t && note_ok s) o)
 
-  pub set_not : (s : List ℕ) → note_ok s ≡ false → set_by n s ≡ left n
+  pub set_not : (s : List ℕ) → note_ok s ≡ false → set_by n s ≡ None
   unfolding set_by
   set_not s h = cond_no _ _ (sym (and_fails_by n.opened h))
 
-  pub by_short : (s : List ℕ) → length s < 2 → noted_by n s ≡ left n
+  pub by_short : (s : List ℕ) → length s < 2 → noted_by n s ≡ None
   unfolding noted_by
   by_short [] h = refl
   by_short (a ∷ []) h = refl
   by_short (a ∷ b ∷ s) h = absurd (omega arith)
 
-  pub by_other : (s : List ℕ) → get_or s 0 0 ≢ 79 → noted_by n s ≡ left n
+  pub by_other : (s : List ℕ) → get_or s 0 0 ≢ 79 → noted_by n s ≡ None
   unfolding noted_by
   by_other [] h = refl
   by_other (a ∷ []) h = refl
@@ -87,14 +88,14 @@ module _ (n : Note) where
   by_set (a ∷ b ∷ []) h p q = cond_yes _ _ (eq-eqb a 79 p) ∙ cond_yes _ _ (eq-eqb b 68 q)
   by_set (a ∷ b ∷ c ∷ s) h p q = cond_yes _ _ (λ i. eq-eqb a 79 p i && eq-eqb b 68 q i)
 
-  pub by_more : (s : List ℕ) → length s ≢ 2 → get_or s 1 0 ≢ 68 → noted_by n s ≡ left n
+  pub by_more : (s : List ℕ) → length s ≢ 2 → get_or s 1 0 ≢ 68 → noted_by n s ≡ None
   unfolding noted_by
   by_more [] h q = refl
   by_more (a ∷ []) h q = refl
   by_more (a ∷ b ∷ []) h q = absurd (h refl)
   by_more (a ∷ b ∷ c ∷ s) h q = told (eqb a 79) (λ e. rw (e, ne_eqb b 68 q)) (λ e. rw e)
 
-  pub by_two : (s : List ℕ) → length s ≡ 2 → get_or s 0 0 ≡ 79 → get_or s 1 0 ≢ 68 → noted_by n s ≡ after_o n (get_or s 1 0)
+  pub by_two : (s : List ℕ) → length s ≡ 2 → get_or s 0 0 ≡ 79 → get_or s 1 0 ≢ 68 → noted_by n s ≡ after_o (get_or s 1 0)
   unfolding noted_by
   by_two [] h p q = absurd (omega arith)
   by_two (a ∷ []) h p q = absurd (omega arith)

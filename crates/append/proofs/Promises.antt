@@ -8,8 +8,9 @@ use native.Mathlib.Omega.{arith}
 use borrow.Author.Tests.{eqb-true, eqb-false, le-leb, leb-true, leb-false}
 use lib.Dec.{leb, eqb}
 use lib.ListN.{length, take}
+use Rattle.std.specs.Prelude.{Option, None, Some}
 use Rattle.laws.specs.Every.{every}
-use Rattle.laws.proofs.Tests.{told, cond_yes, cond_no, and_left}
+use Rattle.laws.proofs.Tests.{told, never, cond_yes, cond_no, and_left}
 use Rattle.laws.proofs.OverLaws.{take_over}
 use Rattle.note.specs.Note.{longest_note, note_ok}
 use Rattle.line.specs.Line.{line_length, valid_line}
@@ -17,9 +18,8 @@ use Rattle.line.specs.Command.{two_bytes, three_bytes, command_in, command_of}
 use Rattle.line.specs.declared.Line.{Line}
 use Rattle.line.specs.declared.Command.{Command}
 use Rattle.line.specs.declared.Command.TheVariants.{Unknown}
-use Rattle.append.specs.Append.{appended, zeros, empty, holding, valid_note, did, left, set_by, after_o, noted_by, note_after}
+use Rattle.append.specs.Append.{appended, zeros, empty, holding, valid_note, set_by, after_o, noted_by, note_after}
 use Rattle.append.specs.declared.Note.{Note}
-use Rattle.append.specs.declared.Noted.{Noted}
 use Rattle.append.specs.Promises.{Asks, opens, sets, closes, Ours, Promised}
 use Rattle.append.proofs.Laws.{zeros_long, valid_none, valid_by, invalid_closed, invalid_past, set_does, set_closed, set_not, by_short, by_other, by_set, by_more, by_two}
 
@@ -28,7 +28,7 @@ use Rattle.append.proofs.Laws.{zeros_long, valid_none, valid_by, invalid_closed,
 at_od : (n : Note) (s : List ℕ) → noted_by n (79 ∷ 68 ∷ s) ≡ set_by n s
 at_od n s = by_set n (79 ∷ 68 ∷ s) (omega arith) refl refl
 
-asked : (n : Note) (s : List ℕ) (m : Note) → Asks n s m → noted_by n s ≡ did m
+asked : (n : Note) (s : List ℕ) (m : Note) → Asks n s m → noted_by n s ≡ Some m
 unfolding noted_by after_o
 asked n _ _ opens = refl
 asked n _ _ (sets s o h) = at_od n s ∙ set_does n s o h
@@ -36,7 +36,7 @@ asked n _ _ closes = refl
 
 -- one of the three, or left
 abbrev Only : Note → List ℕ → Type 0
-Only n s = (noted_by n s ≡ left n) ⊎ ((m : Note) × Asks n s m × (noted_by n s ≡ did m))
+Only n s = (noted_by n s ≡ None) ⊎ ((m : Note) × Asks n s m × (noted_by n s ≡ Some m))
 
 only_od : (n : Note) (s : List ℕ) → Only n (79 ∷ 68 ∷ s)
 only_od n s =
@@ -47,9 +47,9 @@ only_od n s =
     (λ h. inl (at_od n s ∙ set_not n s h)))
     (λ o. inl (at_od n s ∙ set_closed n s o))
 
-neither : (n : Note) (b : ℕ) → eqb b 67 ≡ false → eqb b 72 ≡ false → after_o n b ≡ left n
+neither : (b : ℕ) → eqb b 67 ≡ false → eqb b 72 ≡ false → after_o b ≡ None
 unfolding after_o
-neither n b e f = cond_no _ _ e ∙ cond_no _ _ f
+neither b e f = cond_no _ _ e ∙ cond_no _ _ f
 
 only_two : (n : Note) (b : ℕ) → b ≢ 68 → Only n (79 ∷ b ∷ [])
 only_two n b d =
@@ -58,7 +58,7 @@ only_two n b d =
     (λ e.
     told (eqb b 72)
     (λ f. subst (λ (x : ℕ). Only n (79 ∷ x ∷ [])) (sym (eqb-true b 72 f)) (inr (empty false, closes, asked n _ _ closes)))
-    (λ f. inl (by_two n (79 ∷ b ∷ []) refl refl d ∙ neither n b e f)))
+    (λ f. inl (by_two n (79 ∷ b ∷ []) refl refl d ∙ neither b e f)))
 
 only_more : (n : Note) (a b : ℕ) (s : List ℕ) → Only n (a ∷ b ∷ s)
 only_more n a b s =
@@ -134,19 +134,22 @@ asks_valid n _ _ opens = valid_none (empty true) refl
 asks_valid n _ _ (sets s o h) = holding_valid s h
 asks_valid n _ _ closes = valid_none (empty false) refl
 
-by_valid : (n : Note) (s : List ℕ) → valid_note n ≡ true → valid_note (noted_by n s).note ≡ true
-by_valid n s v = go (only n s)
+by_valid : (n m : Note) (s : List ℕ) → noted_by n s ≡ Some m → valid_note m ≡ true
+by_valid n m s e = go (only n s)
   where
-    go : Only n s → valid_note (noted_by n s).note ≡ true
-    go (inl e) = ap (λ (x : Noted). valid_note x.note) e ∙ v
-    go (inr p) = ap (λ (x : Noted). valid_note x.note) p.2 ∙ asks_valid n s p.0 p.1
+    go : Only n s → valid_note m ≡ true
+    go (inl f) = never (cc)
+    go (inr p) = let q : p.0 ≡ m = cc in ap valid_note (sym q) ∙ asks_valid n s p.0 p.1
 
-pub stays_valid : (n : Note) (l : Line) → valid_note n ≡ true → valid_note (note_after n l).note ≡ true
+pub stays_valid : (n m : Note) (l : Line) → note_after n l ≡ Some m → valid_note m ≡ true
 unfolding note_after
-stays_valid n l v =
+stays_valid n m l e =
     told l.overlong
-    (λ e. rw e v)
-    (λ e. told (valid_line l) (λ f. rw (e, f) (by_valid n (take l.len l.bytes) v)) (λ f. rw (e, f) v))
+    (λ f. let q : note_after n l ≡ None = cond_yes _ _ f in never (cc))
+    (λ f.
+    told (valid_line l)
+    (λ v. by_valid n m (take l.len l.bytes) (sym (cond_no _ _ f ∙ cond_yes _ _ v) ∙ e))
+    (λ v. let q : note_after n l ≡ None = cond_no _ _ f ∙ cond_no _ _ v in never (cc)))
 
 -- the table of letters has no command that begins with O
 no_letter : (n : Note) (s : List ℕ) (m : Note) → Asks n s m → command_in s ≡ Unknown
@@ -159,7 +162,7 @@ no_letter n _ _ closes = refl
 
 -- a line leaves the note, or sets it and is none of the table's
 abbrev pub Either : Note → Line → Type 0
-Either n l = (note_after n l ≡ left n) ⊎ ((m : Note) × (note_after n l ≡ did m) × (command_of l ≡ Unknown))
+Either n l = (note_after n l ≡ None) ⊎ ((m : Note) × (note_after n l ≡ Some m) × (command_of l ≡ Unknown))
 
 pub either : (n : Note) (l : Line) → Either n l
 unfolding note_after command_of
@@ -171,24 +174,24 @@ either n l =
     (λ f. go (cond_no _ _ e ∙ cond_yes _ _ f) (cond_no _ _ e ∙ cond_yes _ _ f) (only n (take l.len l.bytes)))
     (λ f. inl (cond_no _ _ e ∙ cond_no _ _ f)))
   where
-    go : {a : Noted} {c : Command} → a ≡ noted_by n (take l.len l.bytes) → c ≡ command_in (take l.len l.bytes) →
-        Only n (take l.len l.bytes) → (a ≡ left n) ⊎ ((m : Note) × (a ≡ did m) × (c ≡ Unknown))
+    go : {a : Option Note} {c : Command} → a ≡ noted_by n (take l.len l.bytes) → c ≡ command_in (take l.len l.bytes) →
+        Only n (take l.len l.bytes) → (a ≡ None) ⊎ ((m : Note) × (a ≡ Some m) × (c ≡ Unknown))
     go p q (inl e) = inl (p ∙ e)
     go p q (inr k) = inr (k.0, p ∙ k.2, q ∙ no_letter n _ k.0 k.1)
 
-pub no_row : (n : Note) (l : Line) → command_of l ≢ Unknown → note_after n l ≡ left n
+pub no_row : (n : Note) (l : Line) → command_of l ≢ Unknown → note_after n l ≡ None
 no_row n l u = go (either n l)
   where
-    go : Either n l → note_after n l ≡ left n
+    go : Either n l → note_after n l ≡ None
     go (inl e) = e
     go (inr p) = absurd (u p.2)
 
 -- what sets the note has no row
-pub did_unknown : (n : Note) (l : Line) (m : Note) → note_after n l ≡ did m → command_of l ≡ Unknown
+pub did_unknown : (n : Note) (l : Line) (m : Note) → note_after n l ≡ Some m → command_of l ≡ Unknown
 did_unknown n l m e = go (either n l)
   where
     go : Either n l → command_of l ≡ Unknown
-    go (inl f) = absurd (false≢true (ap (λ (x : Noted). x.known) (sym f ∙ e)))
+    go (inl f) = never (cc)
     go (inr p) = p.2
 
 pub promised : Promised

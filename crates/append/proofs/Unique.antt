@@ -2,11 +2,11 @@
 use Prim.Native.Nat.{ℕ}
 use mathlib.Core.Bool.{Bool}
 use mathlib.Core.Path.{◌≡◌}
+use Rattle.std.specs.Prelude.{Option}
 use Rattle.laws.proofs.OneAnswer.{one_answer}
 use Rattle.line.specs.declared.Line.{Line}
 use Rattle.append.specs.Clauses.{NoteEmpty, NoteIsValid, NoteLength, NoteAfter}
 use Rattle.append.specs.declared.Note.{Note}
-use Rattle.append.specs.declared.Noted.{Noted}
 
 pub one_empty : (opened : Bool) {r r' : Note} → NoteEmpty opened r → NoteEmpty opened r' → r ≡ r'
 one_empty opened = one_answer
@@ -17,5 +17,5 @@ one_is_valid self = one_answer
 pub one_length : (self : Note) {r r' : ℕ} → NoteLength self r → NoteLength self r' → r ≡ r'
 one_length self = one_answer
 
-pub one_after : (self : Note) (line : Line) {r r' : Noted} → NoteAfter self line r → NoteAfter self line r' → r ≡ r'
+pub one_after : (self : Note) (line : Line) {r r' : Option Note} → NoteAfter self line r → NoteAfter self line r' → r ≡ r'
 one_after self line = one_answer

@@ -3,39 +3,19 @@
 
 ghost use Rattle.std.specs.Prelude.{◌≡◌, ◌≤◌, length};
 ghost use Rattle.note.specs.Note.{longest_note};
-ghost use Rattle.append.specs.Append.{holding, did, left, set_by, after_o, noted_by};
+ghost use Rattle.append.specs.Append.{holding, set_by, after_o, noted_by};
 ghost use Rattle.append.specs.Clauses.{NoteEmpty, NoteIsValid, NoteLength, NoteAfter};
 
 use line::{LINE_LENGTH, Line};
 use note::NOTE_LENGTH;
 
+// (Its buffer has a count of its own, since a count past the buffer is refused by 16: valid_note.)
 #[derive(Clone, Copy)]
 pub struct Note {
     // Whether OD sets it; closed, it is empty.
     pub opened: bool,
     pub bytes: [u8; NOTE_LENGTH],
     pub len: usize,
-}
-
-// What a line did to a note: whether it was one of the three commands, and the note after it.
-#[derive(Clone, Copy)]
-pub struct Noted {
-    pub known: bool,
-    pub note: Note,
-}
-
-// A command of the three.
-fn did(note: Note) -> Noted
-    ensures { result ≡ did note }
-{
-    Noted { known: true, note }
-}
-
-// Every other line leaves the note.
-fn leave(note: Note) -> Noted
-    ensures { result ≡ left note }
-{
-    Noted { known: false, note }
 }
 
 // An open note of these bytes, in a fresh buffer of zeros.
@@ -53,46 +33,35 @@ fn hold(s: &[u8]) -> Note
 }
 
 // OD and these bytes: they are set whole, where the note is open and they may be appended.
-fn set_by(note: Note, s: &[u8]) -> Noted
+fn set_by(note: Note, s: &[u8]) -> Option<Note>
     ensures { result ≡ set_by note s.now }
 {
-    if !note.opened {
-        return leave(note);
+    if !note.opened || !note::is_note(s) {
+        return None;
     }
-    if !note::is_note(s) {
-        return leave(note);
-    }
-    did(hold(s))
+    Some(hold(s))
 }
 
 // The byte after an O, alone: C opens an empty note, H empties and closes it.
-fn after_o(note: Note, b: u8) -> Noted
-    ensures { result ≡ after_o note b }
+fn after_o(b: u8) -> Option<Note>
+    ensures { result ≡ after_o b }
 {
     match b {
-        b'C' => did(Note::empty(true)),
-        b'H' => did(Note::empty(false)),
-        _ => leave(note),
+        b'C' => Some(Note::empty(true)),
+        b'H' => Some(Note::empty(false)),
+        _ => None,
     }
 }
 
-// What these bytes, the whole of a line, do to a note.
-fn noted_by(note: Note, s: &[u8]) -> Noted
+// What these bytes, the whole of a line, make of a note; every line but the three leaves it.
+fn noted_by(note: Note, s: &[u8]) -> Option<Note>
     ensures { result ≡ noted_by note s.now }
 {
-    if s.len() < 2 {
-        return leave(note);
+    match s {
+        [b'O', b'D', bytes @ ..] => set_by(note, bytes),
+        [b'O', b] => after_o(*b),
+        _ => None,
     }
-    if s[0] != b'O' {
-        return leave(note);
-    }
-    if s[1] == b'D' {
-        return set_by(note, &s[2..]);
-    }
-    if s.len() != 2 {
-        return leave(note);
-    }
-    after_o(note, s[1])
 }
 
 impl Note {
@@ -111,43 +80,24 @@ impl Note {
     pub fn is_valid(self) -> bool
         ensures { NoteIsValid self result }
     {
-        let len = self.len;
-        if len == 0 {
-            return true;
-        }
-        if !self.opened {
-            return false;
-        }
-        if NOTE_LENGTH < len {
-            return false;
-        }
-        let bytes = self.bytes;
-        note::is_note(&bytes[..len])
+        self.len == 0
+            || (self.opened && self.len <= NOTE_LENGTH && note::is_note(&self.bytes[..self.len]))
     }
 
     // How many bytes it appends: its count, and no more than its buffer has.
     pub fn length(self) -> usize
         ensures { NoteLength self result }
     {
-        let len = self.len;
-        if NOTE_LENGTH < len {
-            return NOTE_LENGTH;
-        }
-        len
+        self.len.min(NOTE_LENGTH)
     }
 
-    // What a line does to it.
-    pub fn after(self, line: Line) -> Noted
+    // The note after a line of the three; None for every other line, which leaves it.
+    pub fn after(self, line: Line) -> Option<Note>
         ensures { NoteAfter self line result }
     {
-        if line.overlong {
-            return leave(self);
+        if line.overlong || LINE_LENGTH < line.len {
+            return None;
         }
-        let len = line.len;
-        if LINE_LENGTH < len {
-            return leave(self);
-        }
-        let bytes = line.bytes;
-        noted_by(self, &bytes[..len])
+        noted_by(self, &line.bytes[..line.len])
     }
 }

@@ -8,10 +8,10 @@ use mathlib.Core.Path.{◌≡◌, sym, ap, ◌∙◌}
 use native.Mathlib.Omega.{arith}
 use lib.ListN.{length, take, drop, length-append}
 use lib.Seq.{take_at}
+use Rattle.std.specs.Prelude.{Ok}
 use Rattle.laws.specs.Over.{over}
 use Rattle.laws.proofs.ListLaws.{take_past, drop_past, at_past}
 use Rattle.laws.proofs.OverLaws.{over_front, drop_over}
-use Rattle.refusal.specs.Answer.{accepted}
 use Rattle.digits.specs.Digits.{digits}
 use Rattle.pupil.specs.Pupil.{minus_text}
 use Rattle.frame.specs.Frame.{ending, framed}
@@ -99,7 +99,7 @@ serial_minus r nine =
     ∙ ap (take 9) (drop_over m minus_text 54 65 more (omega arith))
     ∙ serial_at r.figures r.serial nine
 
-pub serial_in_lem : (m : List ℕ) (r : Record) → read_of text_form false m ≡ accepted r → serial_in m ≡ r.serial
+pub serial_in_lem : (m : List ℕ) (r : Record) → read_of text_form false m ≡ Ok r → serial_in m ≡ r.serial
 serial_in_lem m r e = let a = (text_zero.accepts false m r).0 e in by (serial_long r a.0) a.1 where
   by : length r.serial ≡ 9 → PlusOrMinus text_form pupil_of 54 minus_text false r m → serial_in m ≡ r.serial
   by nine (inl k) = ap serial_in k ∙ serial_at r.figures r.serial nine

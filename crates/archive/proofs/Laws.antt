@@ -7,19 +7,19 @@ use native.Mathlib.Omega.{arith}
 use lib.Dec.{leb}
 use lib.ListN.{length, take, drop, length-drop}
 use lib.Seq.{take-take, drop-drop, length-take-le}
+use Rattle.std.specs.Prelude.{Err, Ok}
 use Rattle.laws.proofs.ListLaws.{drop_of_take, last_part}
 use Rattle.laws.proofs.Tests.{told}
-use Rattle.refusal.specs.Answer.{accepted, refused, unless, and_then}
+use Rattle.refusal.specs.Answer.{Answer, and_then, unless}
 use Rattle.refusal.specs.declared.Refusal.{Refusal}
 use Rattle.refusal.specs.declared.Refusal.TheVariants.{Field, Lost}
 use Rattle.digits.specs.Digits.{read_decimal}
-use Rattle.digits.specs.declared.Field as digit
+use Rattle.std.specs.Prelude.{Option}
 use Rattle.codec.specs.Codec.{Got, passed, failing, first, both, chained, field_says, text_ok, read_tagged, parsed}
 use Rattle.codec.proofs.Exact.{first_zero}
 use Rattle.codec.proofs.Fields.{tagged_number}
 use Rattle.pointed.specs.Pointed.{point}
 use Rattle.frame.specs.Message.{read_of, message_of, checked, then_write, then_left, write_of, left_by, WritesMessage, Moves}
-use Rattle.frame.specs.declared.Wrote.{Wrote}
 use Rattle.frame.proofs.Exactly.{reads_only}
 use Rattle.record.specs.Record.{top_distance, top_pupil, figures_lowest, record_lowest}
 use Rattle.record.specs.Forms.{back_by, text_form, with_serial}
@@ -44,7 +44,7 @@ unfolding old_zoom
 zoom_parts s l = rw (last_part 2 3 s l, tagged_number 122 11 10 48 1 1 (take 2 s), tagged_number point 11 10 48 2 99 (drop 2 s))
 
 -- V and E in the bytes before it
-pub old_back_lem : (s : List ℕ) (z : digit.Field) → length s ≡ old_length → field_says 11 z ≡ old_zoom.parse (take 5 (drop 59 s)) →
+pub old_back_lem : (s : List ℕ) (z : Option ℕ) → length s ≡ old_length → field_says 11 z ≡ old_zoom.parse (take 5 (drop 59 s)) →
     with_zoom (take 11 (drop 48 s)) z ≡ parsed (back_by old_zoom) 9 (take 16 (drop 48 s))
 old_back_lem s z l e =
     let t = take 16 (drop 48 s) in
@@ -57,42 +57,42 @@ old_back_lem s z l e =
 
 -- what is read decides; then the serial or the thousandths do
 module _ (m : List ℕ) where
-  pub forward_refused : (s : List ℕ) {x : Refusal} → read_of old_form false m ≡ refused x → forward m s ≡ refused x
+  pub forward_refused : (s : List ℕ) {x : Refusal} → read_of old_form false m ≡ Err x → forward m s ≡ Err x
   unfolding forward and_then
   forward_refused s e = rw e
 
-  pub forward_read : (s : List ℕ) {f : Figures} → read_of old_form false m ≡ accepted f → forward m s ≡ added s f
+  pub forward_read : (s : List ℕ) {f : Figures} → read_of old_form false m ≡ Ok f → forward m s ≡ added s f
   unfolding forward and_then
   forward_read s e = rw e
 
-  pub back_refused : {x : Refusal} → read_of text_form false m ≡ refused x → back m ≡ refused x
+  pub back_refused : {x : Refusal} → read_of text_form false m ≡ Err x → back m ≡ Err x
   unfolding back and_then
   back_refused e = rw e
 
-  pub back_read : {r : Record} → read_of text_form false m ≡ accepted r → back m ≡ dropped r.figures
+  pub back_read : {r : Record} → read_of text_form false m ≡ Ok r → back m ≡ dropped r.figures
   unfolding back and_then
   back_read e = rw e
 
 module _ (f : Figures) where
-  pub dropped_yes : by_ten f.zoom ≡ true → dropped f ≡ accepted (message_of old_form false f)
+  pub dropped_yes : by_ten f.zoom ≡ true → dropped f ≡ Ok (message_of old_form false f)
   unfolding dropped unless
   dropped_yes y = rw y
 
-  pub dropped_no : by_ten f.zoom ≡ false → dropped f ≡ refused Lost
+  pub dropped_no : by_ten f.zoom ≡ false → dropped f ≡ Err Lost
   unfolding dropped unless
   dropped_no n = rw n
 
   module _ (s : List ℕ) where
-    pub added_yes : text_ok 9 s ≡ true → added s f ≡ accepted (message_of text_form false (with_serial f s))
+    pub added_yes : text_ok 9 s ≡ true → added s f ≡ Ok (message_of text_form false (with_serial f s))
     unfolding added unless
     added_yes y = rw y
 
-    pub added_no : text_ok 9 s ≡ false → added s f ≡ refused (Field 12)
+    pub added_no : text_ok 9 s ≡ false → added s f ≡ Err (Field 12)
     unfolding added unless
     added_no n = rw n
 
 -- what is read of an old line is in the ranges of document 01
-pub read_fits : (m : List ℕ) (f : Figures) → read_of old_form false m ≡ accepted f → (figures_lowest top_distance top_pupil f ≡ 0) × (failing (by_ten f.zoom) 11 ≡ 0)
+pub read_fits : (m : List ℕ) (f : Figures) → read_of old_form false m ≡ Ok f → (figures_lowest top_distance top_pupil f ≡ 0) × (failing (by_ten f.zoom) 11 ≡ 0)
 unfolding old_lowest
 read_fits m f e = first_zero _ _ (sym (old_lowest_lem f) ∙ (reads_only old_form old_exact false m f e).0)
 
@@ -102,7 +102,7 @@ module _ (f : Figures) (s out : List ℕ) (fits : figures_lowest top_distance to
   unfolding record_lowest first
   serial_lowest = text_lowest (with_serial f s) ∙ rw fits
 
-  pub added_written : {w : Wrote} {after : List ℕ} → WritesMessage text_form Field false (with_serial f s) out w after → Moves new_line_length (added s f) out w after
+  pub added_written : {w : Answer ℕ} {after : List ℕ} → WritesMessage text_form Field false (with_serial f s) out w after → Moves new_line_length (added s f) out w after
   unfolding write_of left_by then_write then_left checked added unless failing
   added_written p =
       told (text_ok 9 s)

@@ -7,9 +7,9 @@ use mathlib.Core.Path.{◌≡◌, refl, sym, ap, subst, ◌∙◌}
 use native.Mathlib.Omega.{arith}
 use lib.ListN.{length, take, get_or}
 use lib.Seq.{take_at, drop_at}
+use Rattle.std.specs.Prelude.{Err}
 use Rattle.laws.specs.Member.{◌∈◌}
 use Rattle.laws.proofs.MemberLaws.{the_only, in_map}
-use Rattle.refusal.specs.Answer.{refused}
 use Rattle.refusal.specs.declared.Refusal.TheVariants.{Field, Length, Contents}
 use Rattle.digits.specs.Digits.{digits, read_field}
 use Rattle.codec.specs.Codec.{Got, got, wrong, Codec, spellings, both, mapped, text_ok, number, ◌⊗◌}
@@ -47,7 +47,7 @@ shorter false true n e k = omega arith
 shorter false false n e k = omega arith
 
 pub old_refused : (summed checksum : Bool) (m : List ℕ) (f : Figures) → old_lowest f ≡ 0 → m ∈ messages_of old_form summed f →
-    read_of text_form checksum m ≡ refused (Length (length m))
+    read_of text_form checksum m ≡ Err (Length (length m))
 old_refused summed checksum m f h k =
     let l = messages_long old_form old_exact summed m f (old_lowest_lem f ∙ h) k ∙ ap (λ (n : ℕ). n + ending_width summed) old_width in
     ((refuses text_form record_lowest Field text_length text_places text_form_blames text_lowest text_form_width).read_when checksum m (Length (length m))).1
@@ -134,7 +134,7 @@ apart false true n d e k = omega arith
 apart false false n d e k = d refl
 
 module _ (checksum : Bool) (m : List ℕ) (r : Record) (low : old_lowest r.figures ≡ 0) (ok : text_ok 9 r.serial ≡ true) (k : m ∈ messages_of form122 checksum r) where
-  pub mixed_refused : read_of text_form checksum m ≡ refused (Contents 11)
+  pub mixed_refused : read_of text_form checksum m ≡ Err (Contents 11)
   unfolding found
   mixed_refused =
       let q = in_map (framed checksum) (spellings form122 r) k in
@@ -148,13 +148,13 @@ module _ (checksum : Bool) (m : List ℕ) (r : Record) (low : old_lowest r.figur
   mixed_long : length m ≡ text_length + ending_width checksum
   mixed_long = messages_long form122 mixed_exact checksum m r (mixed_lowest r low ok) k ∙ ap (λ (n : ℕ). n + ending_width checksum) mixed_width
 
-  pub mixed_old : read_of old_form false m ≡ refused (Length (length m))
+  pub mixed_old : read_of old_form false m ≡ Err (Length (length m))
   mixed_old =
       ((refuses old_form old_lowest Field old_length old_places old_blames old_lowest_lem old_width).read_when false m (Length (length m))).1
       (λ e. shorter false checksum (length m) e mixed_long, refl)
 
 pub mixed_other : (summed checksum : Bool) (m : List ℕ) (r : Record) → old_lowest r.figures ≡ 0 → text_ok 9 r.serial ≡ true → m ∈ messages_of form122 summed r →
-    summed ≢ checksum → read_of text_form checksum m ≡ refused (Length (length m))
+    summed ≢ checksum → read_of text_form checksum m ≡ Err (Length (length m))
 mixed_other summed checksum m r low ok k d =
     ((refuses text_form record_lowest Field text_length text_places text_form_blames text_lowest text_form_width).read_when checksum m (Length (length m))).1
     (λ e. apart summed checksum (length m) d (mixed_long summed m r low ok k) (e ∙ sym (ending_by text_length checksum)), refl)

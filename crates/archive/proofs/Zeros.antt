@@ -7,10 +7,10 @@ use mathlib.Core.Path.{◌≡◌, refl, sym, ap, ◌∙◌}
 use native.Mathlib.Omega.{arith}
 use lib.ListN.{length, take, drop, get_or, length-append}
 use lib.Seq.{take_at, drop_at, length-take-le}
+use Rattle.std.specs.Prelude.{Ok}
 use Rattle.laws.specs.Over.{over}
 use Rattle.laws.proofs.MemberLaws.{in_map}
 use Rattle.laws.proofs.OverLaws.{over_fits, over_front}
-use Rattle.refusal.specs.Answer.{accepted}
 use Rattle.codec.specs.Codec.{Codec, failing, first, spellings}
 use Rattle.codec.specs.Places.{Place, field_of}
 use Rattle.codec.proofs.Exact.{Exact, spelt_read, first_zero}
@@ -60,7 +60,7 @@ differ e = let k : ◌≡◌ {A = ℕ} 43 45 = ap (λ (s : List ℕ). get_or s 1
 pub old_zero : MinusZero old_form old_lowest (λ f. f.pupil) old_places 54 plus_text minus_text
 old_zero = minus_zero old_form old_lowest (λ f. f.pupil) pupil_text old_places old_length 54 plus_text minus_text old_blames old_width old_lowest_lem text_zeros old_at differ
 
-module _ {A : Type 0} (form : Codec A) (exact : Exact form) (w : ℕ) (wide : form.width ≡ w) (enough : 59 ≤ w) (m : List ℕ) (a : A) (e : read_of form false m ≡ accepted a) where
+module _ {A : Type 0} (form : Codec A) (exact : Exact form) (w : ℕ) (wide : form.width ≡ w) (enough : 59 ≤ w) (m : List ℕ) (a : A) (e : read_of form false m ≡ Ok a) where
   -- a line that was read: its contents, and LF CR
   in_two : (m ≡ framed false (take w m)) × (length (take w m) ≡ w)
   in_two =
@@ -94,7 +94,7 @@ module _ {A : Type 0} (form : Codec A) (exact : Exact form) (w : ℕ) (wide : fo
     plus_by h = zero.comes_plus false m a e (field m ∙ h) ∙ ap (λ (n : ℕ). framed false (over (take n m) 54 plus_text)) wide ∙ plus_framed
 
 module _ (m : List ℕ) where
-  module _ (f : Figures) (e : read_of old_form false m ≡ accepted f) where
+  module _ (f : Figures) (e : read_of old_form false m ≡ Ok f) where
     pub old_same : (Minus m → ⊥) → message_of old_form false f ≡ m
     unfolding pupil_text
     old_same = same_by old_form old_exact 64 old_width (omega arith) m f e old_lowest (λ f. f.pupil) old_places old_at.field old_zero
@@ -106,7 +106,7 @@ module _ (m : List ℕ) where
     pub old_other : Minus m → with_plus m ≢ m
     old_other = plus_other old_form old_exact 64 old_width (omega arith) m f e
 
-  module _ (r : Record) (e : read_of text_form false m ≡ accepted r) where
+  module _ (r : Record) (e : read_of text_form false m ≡ Ok r) where
     pub new_same : (Minus m → ⊥) → message_of text_form false r ≡ m
     unfolding pupil_text
     new_same = same_by text_form text_form_exact 74 text_form_width (omega arith) m r e record_lowest pupil_of text_places text_at.field text_zero

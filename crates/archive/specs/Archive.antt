@@ -1,6 +1,6 @@
 -- An old line moved forward and a new line moved back: read, then written.
-use Rattle.std.specs.Prelude.{ℕ, false, List}
-use Rattle.refusal.specs.Answer.{Answer, accepted, unless, and_then}
+use Rattle.std.specs.Prelude.{ℕ, false, List, Ok}
+use Rattle.refusal.specs.Answer.{Answer, and_then, unless}
 use Rattle.refusal.specs.declared.Refusal.TheVariants.{Field, Lost}
 use Rattle.codec.specs.Codec.{text_ok}
 use Rattle.frame.specs.Message.{read_of, message_of}
@@ -17,11 +17,11 @@ new_line_length = 76
 
 -- "adds S": the new line of fields 1 to 11 and a serial; 1 for the serial
 unfoldable pub added : List ℕ → Figures → Answer (List ℕ)
-added s f = unless (text_ok 9 s) (Field 12) (accepted (message_of text_form false (with_serial f s)))
+added s f = unless (text_ok 9 s) (Field 12) (Ok (message_of text_form false (with_serial f s)))
 
 -- "drops S, and only when the thousandths divide by ten": the old line; 11 where they do not
 unfoldable pub dropped : Figures → Answer (List ℕ)
-dropped f = unless (by_ten f.zoom) Lost (accepted (message_of old_form false f))
+dropped f = unless (by_ten f.zoom) Lost (Ok (message_of old_form false f))
 
 -- "3 to 6 of the line first"
 unfoldable pub forward : List ℕ → List ℕ → Answer (List ℕ)

@@ -1,8 +1,8 @@
 -- Request [6]'s sentences, of the lines that are moved. Statements only: proofs/Promises.antt proves each.
-use Rattle.std.specs.Prelude.{ℕ, ◌%◌, Bool, true, false, List, [], ◌∷◌, ◌++◌, ◌↔◌, ◌≢◌, ◌⊎◌, ◌≡◌, length, take, drop, get_or}
+use Rattle.std.specs.Prelude.{ℕ, ◌%◌, Bool, true, false, List, [], ◌∷◌, ◌++◌, ◌↔◌, ◌≢◌, ◌⊎◌, ◌≡◌, length, take, drop, get_or, Err, Ok}
 use Rattle.laws.specs.Member.{◌∈◌}
 use Rattle.laws.specs.Over.{over}
-use Rattle.refusal.specs.Answer.{accepted, refused}
+use Rattle.refusal.specs.Answer.{Answer}
 use Rattle.refusal.specs.declared.Refusal.{Refusal}
 use Rattle.refusal.specs.declared.Refusal.TheVariants.{Field, Length, Checksum, Contents, Lost}
 use Rattle.codec.specs.Codec.{text_ok, spellings}
@@ -10,7 +10,6 @@ use Rattle.codec.specs.Ranges.{Ranges, LowestBy}
 use Rattle.frame.specs.Laid.{Laid}
 use Rattle.frame.specs.Message.{read_of, messages_of}
 use Rattle.frame.specs.Refuses.{ReadWhen}
-use Rattle.frame.specs.declared.Wrote.{Wrote}
 use Rattle.pupil.specs.Pupil.{plus_text, minus_text}
 use Rattle.record.specs.Record.{record_lowest}
 use Rattle.record.specs.Forms.{text_form, with_serial}
@@ -70,42 +69,42 @@ BackWhen m x =
 pub record Promised : Type 0 where
   -- "Old D lines": what is moved forward is exactly such a line
   pub old_rule : LowestBy old_lowest old_ranges
-  pub old_exactly : (m : List ℕ) (f : Figures) → (read_of old_form false m ≡ accepted f) ↔ OldLine f m
+  pub old_exactly : (m : List ℕ) (f : Figures) → (read_of old_form false m ≡ Ok f) ↔ OldLine f m
   pub old_long : (m : List ℕ) (f : Figures) → OldLine f m → length m ≡ old_line_length
   -- "`-000` is read as [5] says": as 0 in an old line too, and comes out as +000
   pub old_zero : MinusZero old_form old_lowest (λ f. f.pupil) old_places 54 plus_text minus_text
   -- "Forward multiplies the zoom hundredths by ten and adds S", and all else is as it was
-  pub forward_bytes : (m s n : List ℕ) → forward m s ≡ accepted n → (Minus m → ⊥) → n ≡ new_bytes m s
-  pub forward_bytes_plus : (m s n : List ℕ) → forward m s ≡ accepted n → Minus m → n ≡ new_bytes (with_plus m) s
+  pub forward_bytes : (m s n : List ℕ) → forward m s ≡ Ok n → (Minus m → ⊥) → n ≡ new_bytes m s
+  pub forward_bytes_plus : (m s n : List ℕ) → forward m s ≡ Ok n → Minus m → n ≡ new_bytes (with_plus m) s
   -- so it is a new line, of the same figures and this serial
-  pub forward_reads : (m s n : List ℕ) (f : Figures) → OldLine f m → forward m s ≡ accepted n → read_of text_form false n ≡ accepted (with_serial f s)
+  pub forward_reads : (m s n : List ℕ) (f : Figures) → OldLine f m → forward m s ≡ Ok n → read_of text_form false n ≡ Ok (with_serial f s)
   -- "Back drops S, and only when the thousandths divide by ten"
-  pub back_bytes : (m o : List ℕ) → back m ≡ accepted o → (Minus m → ⊥) → o ≡ old_bytes m
-  pub back_bytes_plus : (m o : List ℕ) → back m ≡ accepted o → Minus m → o ≡ old_bytes (with_plus m)
-  pub back_reads : (m o : List ℕ) (r : Record) → NewLine r m → back m ≡ accepted o → OldLine r.figures o
+  pub back_bytes : (m o : List ℕ) → back m ≡ Ok o → (Minus m → ⊥) → o ≡ old_bytes m
+  pub back_bytes_plus : (m o : List ℕ) → back m ≡ Ok o → Minus m → o ≡ old_bytes (with_plus m)
+  pub back_reads : (m o : List ℕ) (r : Record) → NewLine r m → back m ≡ Ok o → OldLine r.figures o
   -- "Forward then back returns the old line", "for lines without -000, which comes out as +000"
-  pub forward_back : (m s n : List ℕ) → forward m s ≡ accepted n → (back n ≡ accepted m) ↔ (Minus m → ⊥)
-  pub forward_back_plus : (m s n : List ℕ) → forward m s ≡ accepted n → Minus m → back n ≡ accepted (with_plus m)
+  pub forward_back : (m s n : List ℕ) → forward m s ≡ Ok n → (back n ≡ Ok m) ↔ (Minus m → ⊥)
+  pub forward_back_plus : (m s n : List ℕ) → forward m s ≡ Ok n → Minus m → back n ≡ Ok (with_plus m)
   -- "back then forward with the same serial returns the new one"
-  pub back_forward : (m o : List ℕ) → back m ≡ accepted o → (forward o (serial_in m) ≡ accepted m) ↔ (Minus m → ⊥)
-  pub back_forward_plus : (m o : List ℕ) → back m ≡ accepted o → Minus m → forward o (serial_in m) ≡ accepted (with_plus m)
+  pub back_forward : (m o : List ℕ) → back m ≡ Ok o → (forward o (serial_in m) ≡ Ok m) ↔ (Minus m → ⊥)
+  pub back_forward_plus : (m o : List ℕ) → back m ≡ Ok o → Minus m → forward o (serial_in m) ≡ Ok (with_plus m)
   -- "The D reader must answer an old line by refusal, never by a wrong record": under either setting, whether or not the line has a checksum
   pub old_refused : (summed checksum : Bool) (m : List ℕ) (f : Figures) → old_lowest f ≡ 0 → m ∈ messages_of old_form summed f →
-      read_of text_form checksum m ≡ refused (Length (length m))
+      read_of text_form checksum m ≡ Err (Length (length m))
   -- a line of firmware 1.22, with S and x.xx together: 6 with field 11 for the D reader, and so for back, 3 under the other setting; 3 for forward
   pub mixed_refused : (checksum : Bool) (m : List ℕ) (r : Record) → old_lowest r.figures ≡ 0 → text_ok 9 r.serial ≡ true → m ∈ messages_of form122 checksum r →
-      read_of text_form checksum m ≡ refused (Contents 11)
+      read_of text_form checksum m ≡ Err (Contents 11)
   pub mixed_other : (summed checksum : Bool) (m : List ℕ) (r : Record) → old_lowest r.figures ≡ 0 → text_ok 9 r.serial ≡ true → m ∈ messages_of form122 summed r →
-      summed ≢ checksum → read_of text_form checksum m ≡ refused (Length (length m))
+      summed ≢ checksum → read_of text_form checksum m ≡ Err (Length (length m))
   pub mixed_forward : (checksum : Bool) (m s : List ℕ) (r : Record) → old_lowest r.figures ≡ 0 → text_ok 9 r.serial ≡ true → m ∈ messages_of form122 checksum r →
-      forward m s ≡ refused (Length (length m))
+      forward m s ≡ Err (Length (length m))
   -- the refusals in their order, each exactly in its case; 5 is none of them
-  pub forward_refuses : (m s : List ℕ) (x : Refusal) → (forward m s ≡ refused x) ↔ ForwardWhen m s x
-  pub back_refuses : (m : List ℕ) (x : Refusal) → (back m ≡ refused x) ↔ BackWhen m x
-  pub forward_never_5 : (m s : List ℕ) → forward m s ≢ refused Checksum
-  pub back_never_5 : (m : List ℕ) → back m ≢ refused Checksum
+  pub forward_refuses : (m s : List ℕ) (x : Refusal) → (forward m s ≡ Err x) ↔ ForwardWhen m s x
+  pub back_refuses : (m : List ℕ) (x : Refusal) → (back m ≡ Err x) ↔ BackWhen m x
+  pub forward_never_5 : (m s : List ℕ) → forward m s ≢ Err Checksum
+  pub back_never_5 : (m : List ℕ) → back m ≢ Err Checksum
   -- then 2, with 76 and with 66; and what is left in lent memory
-  pub forward_long : (m s n : List ℕ) → forward m s ≡ accepted n → length n ≡ new_line_length
-  pub back_long : (m o : List ℕ) → back m ≡ accepted o → length o ≡ old_line_length
-  pub forward_laid : (m s out : List ℕ) (w : Wrote) (after : List ℕ) → OldToNew m s out w after → Laid new_line_length (forward m s) out w after
-  pub back_laid : (m out : List ℕ) (w : Wrote) (after : List ℕ) → NewToOld m out w after → Laid old_line_length (back m) out w after
+  pub forward_long : (m s n : List ℕ) → forward m s ≡ Ok n → length n ≡ new_line_length
+  pub back_long : (m o : List ℕ) → back m ≡ Ok o → length o ≡ old_line_length
+  pub forward_laid : (m s out : List ℕ) (w : Answer ℕ) (after : List ℕ) → OldToNew m s out w after → Laid new_line_length (forward m s) out w after
+  pub back_laid : (m out : List ℕ) (w : Answer ℕ) (after : List ℕ) → NewToOld m out w after → Laid old_line_length (back m) out w after

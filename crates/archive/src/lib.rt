@@ -12,35 +12,28 @@ ghost use Rattle.archive.specs.Old.{old_zoom, old_form, old_length};
 ghost use Rattle.archive.specs.Archive.{old_line_length, dropped};
 ghost use Rattle.archive.specs.Clauses.{OldToNew, NewToOld};
 
-use digits::Field;
-use frame::Wrote;
-use gather::Eleven;
 use record::{Figures, TEN_LENGTH};
-use refusal::{Refusal, Verdict};
+use refusal::{Refusal, Wrong};
 
 // How many bytes the contents of an old line take.
 const OLD_LENGTH: usize = 64;
 
 // Reads z and x.xx: hundredths, as ten times as many thousandths.
-fn read_zoom(s: &[u8]) -> Field
+fn read_zoom(s: &[u8]) -> Option<u32>
     requires { length s.now ≡ 5 }
     ensures { field_says 11 result ≡ old_zoom.parse s.now }
 {
-    let Field::Value(whole) = codec::read_tagged(&s[0..2], b'z', 1) else {
-        return Field::Wrong;
-    };
-    let Field::Value(part) = codec::read_tagged(&s[2..5], b'.', 99) else {
-        return Field::Wrong;
-    };
+    let whole = codec::read_tagged(&s[0..2], b'z', 1)?;
+    let part = codec::read_tagged(&s[2..5], b'.', 99)?;
     let hundredths = whole * 100 + part;
     if 100 < hundredths {
-        return Field::Wrong;
+        return None;
     }
-    Field::Value(hundredths * 10)
+    Some(hundredths * 10)
 }
 
 // Reads the contents of an old line, or finds the first wrong field.
-fn read_old(s: &[u8]) -> Eleven
+fn read_old(s: &[u8]) -> Result<Figures, Wrong>
     requires { length s.now ≡ old_length }
     ensures { eleven_says result ≡ old_form.parse s.now }
 {
@@ -63,48 +56,32 @@ fn put_zoom(out: &mut [u8], thousandths: u32)
 }
 
 // Writes an old line: 11 where the thousandths do not divide by ten, then 2.
-fn write_old(f: Figures, out: &mut [u8]) -> Wrote
+fn write_old(f: Figures, out: &mut [u8]) -> Result<usize, Refusal>
     ensures { Moves old_line_length (dropped f) out.old result out.new }
 {
     if f.zoom % 10 != 0 {
-        return Wrote::Refused(Refusal::Lost);
+        return Err(Refusal::Lost);
     }
-    let answer = frame::room_for(out.len(), OLD_LENGTH as u32, false);
-    let Wrote::Count(n) = answer else {
-        return answer;
-    };
+    let n = frame::room_for(out.len(), OLD_LENGTH as u32, false)?;
     text_writer::put_ten(out, f);
     put_zoom(out, f.zoom);
     frame::put_ending(out, OLD_LENGTH, false);
-    Wrote::Count(n)
+    Ok(n)
 }
 
 // Moves an old line to the present form, with this serial: 3, 4 and 6 of the line, then 1 of the serial, then 2.
-pub fn old_to_new(m: &[u8], text: &[u8], out: &mut [u8]) -> Wrote
+pub fn old_to_new(m: &[u8], text: &[u8], out: &mut [u8]) -> Result<usize, Refusal>
     ensures { OldToNew m.now text.now out.old result out.new }
 {
-    match frame::open(m, OLD_LENGTH, false) {
-        Verdict::Refused(r) => Wrote::Refused(r),
-        Verdict::Done => match read_old(&m[0..OLD_LENGTH]) {
-            Eleven::Wrong(i) => Wrote::Refused(Refusal::Contents(i)),
-            Eleven::Found(figures) => {
-                text_writer::write_text(serial::record_from(figures, text), false, out)
-            }
-        },
-    }
+    frame::open(m, OLD_LENGTH, false)?;
+    let figures = read_old(&m[0..OLD_LENGTH])?;
+    text_writer::write_text(serial::record_from(figures, text), false, out)
 }
 
 // Moves a line of the present form back: 3, 4 and 6 of the line, then 11, then 2.
-pub fn new_to_old(m: &[u8], out: &mut [u8]) -> Wrote
+pub fn new_to_old(m: &[u8], out: &mut [u8]) -> Result<usize, Refusal>
     ensures { NewToOld m.now out.old result out.new }
 {
-    let read = text_reader::read_text(m, false);
-    let verdict = read.verdict;
-    match verdict {
-        Verdict::Refused(r) => Wrote::Refused(r),
-        Verdict::Done => {
-            let contents = read.contents;
-            write_old(contents.figures, out)
-        }
-    }
+    let record = text_reader::read_text(m, false)?;
+    write_old(record.figures, out)
 }

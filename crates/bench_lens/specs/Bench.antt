@@ -14,11 +14,7 @@ bench_settings letter = record {
   fixed = record {
     serial = 0x34 ∷ 0x30 ∷ 0x35 ∷ 0x30 ∷ 0x2E ∷ 0x30 ∷ 0x30 ∷ 0x39 ∷ 0x33 ∷ [];
     owner = 0x42 ∷ 0x45 ∷ 0x4E ∷ 0x43 ∷ 0x48 ∷ replicate 26 0x20;
-    kind = 0x50;
-    focal = 50;
-    maximum = 50;
-    letter = letter;
-    transmission = 95;
+    lens = record { kind = 0x50; focal = 50; maximum = 50; letter = letter; transmission = 95 };
     version = 0x34 ∷ 0x2E ∷ 0x33 ∷ 0x34 ∷ [];
   };
   maker = replicate 15 0x20;

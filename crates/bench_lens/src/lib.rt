@@ -4,7 +4,7 @@
 
 ghost use Rattle.bench_lens.specs.Clauses.{LetterOf, BenchSettings, BenchMeasurement};
 
-use fixed::{Fixed, Settings};
+use fixed::{Fixed, Lens, Settings};
 use record::Figures;
 use units::Measurement;
 
@@ -12,24 +12,24 @@ use units::Measurement;
 pub fn letter_of(word: &[u8]) -> u8
     ensures { LetterOf word.now result }
 {
-    if word.len() == 0 {
-        return b'I';
-    }
-    word[0]
+    word.first().copied().unwrap_or(b'I')
 }
 
 // 4050.0093, BENCH, P, 50, 50, the start-up letter, 95, 4.34; names of spaces, blur circles of 250.
 pub fn bench_settings(letter: u8) -> Settings
     ensures { BenchSettings letter result }
 {
-    let fixed = Fixed {
-        serial: *b"4050.0093",
-        owner: *b"BENCH                          ",
+    let lens = Lens {
         kind: b'P',
         focal: 50,
         maximum: 50,
         letter,
         transmission: 95,
+    };
+    let fixed = Fixed {
+        serial: *b"4050.0093",
+        owner: *b"BENCH                          ",
+        lens,
         version: *b"4.34",
     };
     Settings {

@@ -7,10 +7,10 @@ use native.Mathlib.Nat.{le_trans}
 use native.Mathlib.Omega.{arith}
 use borrow.Author.Tests.{leb-true, eqb-true}
 use lib.Dec.{leb, eqb}
+use Rattle.std.specs.Prelude.{Err}
 use Rattle.laws.proofs.Tests.{told, cond_yes, cond_no}
 use Rattle.stop.proofs.Exact.{stop_top}
 use Rattle.refusal.specs.declared.Refusal.TheVariants.{Field}
-use Rattle.refusal.specs.declared.Verdict.TheVariants.{Refused}
 use Rattle.record.specs.declared.Figures.{Figures}
 use Rattle.units.specs.Units.{is_unit}
 use Rattle.units.specs.Measurement.{measurement_lowest, measurement_verdict}
@@ -69,7 +69,7 @@ refuted f s (inr (inr (inr (inr (inr (inr (inr (inl b)))))))) = omega (arith, s.
 refuted f s (inr (inr (inr (inr (inr (inr (inr (inr (inl b))))))))) = omega (arith, s.view)
 refuted f s (inr (inr (inr (inr (inr (inr (inr (inr (inr b))))))))) = omega (arith, s.zoom)
 
-pub beyond : (m : Measurement) → Beyond m.figures → (i : ℕ) × (measurement_verdict m ≡ Refused (Field i))
+pub beyond : (m : Measurement) → Beyond m.figures → (i : ℕ) × (measurement_verdict m ≡ Err (Field i))
 unfolding measurement_verdict
 beyond m b =
     told (is_unit m.unit)

@@ -4,7 +4,7 @@ use mathlib.Core.Bool.{true}
 use mathlib.Core.List.{List, [], ◌∷◌, ◌++◌}
 use mathlib.Core.Path.{◌≡◌, refl, sym, ap, ap₂, ◌∙◌}
 use native.Mathlib.Omega.{arith}
-use borrow.Author.Tests.{eq-eqb, ne_eqb, lt-ltb}
+use borrow.Author.Tests.{eq-eqb, ne_eqb}
 use lib.Dec.{eqb}
 use lib.IntN.{ℤ}
 use lib.ListN.{length}
@@ -13,7 +13,7 @@ use Rattle.laws.proofs.Tests.{cond_yes, cond_no, and_both, and_fails}
 use Rattle.units.specs.declared.Measurement.{Measurement}
 use Rattle.capture.specs.Words.{space, behind, word, spaces, sole}
 use Rattle.capture.specs.Numbers.{is_value, whole_value, is_whole, word_value}
-use Rattle.capture.specs.Capture.{received_of, slots_by, slots_of, is_letter, number_words, is_measurement, figures_at, measurement_at, event_of}
+use Rattle.capture.specs.Capture.{received_by, received_of, slots_by, slots_of, is_letter, number_words, is_measurement, figures_at, measurement_at, event_of}
 use Rattle.capture.specs.Promises.{SaysByte, SaysSlots, SignedNumber, IsLetter, Spaced, none, next, figures_from, SaysMeasurement}
 use Rattle.capture.specs.declared.Event.TheVariants.{Received, Slots, Measured}
 use Rattle.capture.proofs.Words.{joined_spaces, joined_word, joined_behind, behind_suc, behind_next, word_next, word_behind, word_alone, led_spaces, led_byte, led_word}
@@ -51,17 +51,17 @@ module _ (t : List ℕ) (free : spaces t ≡ 0) where
       ∙ ap slots_of (second_word 83 h)
 
 pub byte_reads : (s : List ℕ) (b : ℕ) → SaysByte s b → event_of s ≡ Received b
-unfolding received_of spaces
+unfolding received_of received_by spaces
 byte_reads s b r =
     let p = hex_reads r.high r.x r.first in
     let q = hex_reads r.low r.y r.second in
-    let h1 = p.2 in
-    let h2 = q.2 in
+    let h1 = p.1 in
+    let h2 = q.1 in
     let free : spaces (r.high ∷ r.low ∷ []) ≡ 0 = rw (ne_eqb r.high space (λ e. omega arith), ne_eqb r.low space (λ e. omega arith)) in
     let n : r.x * 16 + r.y ≡ b = omega (arith, r.says) in
     ap event_of r.is
     ∙ received_reads (r.high ∷ r.low ∷ []) free
-    ∙ rw (p.0, q.0, lt-ltb r.x 16 p.1, lt-ltb r.y 16 q.1) (ap Received n)
+    ∙ rw (p.0, q.0) (ap Received n)
 
 pub slot_reads : (s : List ℕ) (n : ℕ) → SaysSlots s n → event_of s ≡ Slots n
 unfolding slots_by

@@ -1,29 +1,26 @@
 -- What a line is by the event that is read from it: each event's line has the event's form. Assumes nothing.
-use Prim.Native.Nat.{ℕ, zero, suc, ◌+◌, ◌-◌, ◌*◌, ◌≤◌, ◌<◌}
+use Prim.Native.Nat.{ℕ, zero, suc, ◌+◌, ◌-◌, ◌≤◌, ◌<◌}
 use mathlib.Core.Bool.{true, ◌&&◌}
 use mathlib.Core.List.{List, [], ◌∷◌, ◌++◌}
 use mathlib.Core.Logic.{◌≢◌}
 use mathlib.Core.Path.{◌≡◌, refl, sym, ap, subst, ◌∙◌}
 use native.Mathlib.Nat.{add-zero}
 use native.Mathlib.Omega.{arith}
-use borrow.Author.Tests.{eqb-true, eqb-false, ltb-true}
-use lib.Dec.{eqb, ltb}
+use borrow.Author.Tests.{eqb-true, eqb-false}
+use lib.Dec.{eqb}
 use lib.IntN.{ℤ}
 use lib.ListN.{length, get_or}
+use Rattle.std.specs.Prelude.{None, Option, Some}
 use Rattle.laws.specs.Within.{within}
 use Rattle.laws.proofs.ListLaws.{two_is}
 use Rattle.laws.proofs.Range.{at_least, at_most}
 use Rattle.laws.proofs.Tests.{told, never, by, and_left, and_right}
-use Rattle.digits.specs.declared.Field.{Field}
-use Rattle.digits.specs.declared.Field.TheVariants as field
 use Rattle.capture.specs.Words.{space, behind, word, spaces, sole}
 use Rattle.capture.specs.Numbers.{hex_value, digits_of, whole_of, is_value, whole_value, is_whole, word_value}
-use Rattle.capture.specs.Capture.{received_of, slots_by, is_letter, number_words, is_measurement, figures_at, measurement_at, event_of}
+use Rattle.capture.specs.Capture.{received_of, slots_by, is_letter, number_words, is_measurement, figures_at, measurement_at, event_of, received_by}
 use Rattle.capture.specs.Promises.{SaysByte, SaysSlots, Spaced, none, next, figures_from, SaysMeasurement}
 use Rattle.capture.specs.declared.Event.{Event}
 use Rattle.capture.specs.declared.Event.TheVariants.{Received, Slots, Measured, Other}
-use Rattle.capture.specs.declared.Whole.{Whole}
-use Rattle.capture.specs.declared.Whole.TheVariants.{Value, Wrong}
 use Rattle.capture.proofs.Words.{spaces_behind, word_parts, word_last, sole_is, leads}
 use Rattle.capture.proofs.Texts.{number_is, whole_is, hex_is, letter_is, letter_low}
 
@@ -44,31 +41,34 @@ module _ (x : ℕ) (s : List ℕ) (some : 0 < x) where
       let n = eqb-true (spaces s) 1 (and_right (eqb (sole (word 0 s)) x) (eqb (spaces s) 1) h) in
       leads s (omega arith) (omega arith) ∙ rw (k, word_last 1 s (spaces_behind 1 0 s n))
 
+-- two digits, or what is none of them
+digits_say : (s w : List ℕ) → s ≡ 82 ∷ space ∷ w → length w ≡ 2 → (a b : Option ℕ) → hex_value (get_or w 0 0) ≡ a → hex_value (get_or w 1 0) ≡ b →
+    Says s (received_by a b)
+unfolding received_by
+digits_say s w e two (Some x) (Some y) p q = record {
+  high = get_or w 0 0;
+  low = get_or w 1 0;
+  x = x;
+  y = y;
+  is = e ∙ ap (λ (v : List ℕ). 82 ∷ space ∷ v) (two_is w two);
+  first = hex_is _ x p;
+  second = hex_is _ y q;
+  says = omega arith;
+}
+digits_say s w e two (Some x) None p q = tt
+digits_say s w e two None b p q = tt
+
 received_says : (s w : List ℕ) → s ≡ 82 ∷ space ∷ w → Says s (received_of w)
 unfolding received_of
 received_says s w e =
-    let h = get_or w 0 0 in
-    let k = get_or w 1 0 in
-    by (Says s) (eqb (length w) 2 && (ltb (hex_value h) 16 && ltb (hex_value k) 16)) (Received (hex_value h * 16 + hex_value k)) Other
-    (λ t.
-    let two = eqb-true (length w) 2 (and_left (eqb (length w) 2) (ltb (hex_value h) 16 && ltb (hex_value k) 16) t) in
-    let both = and_right (eqb (length w) 2) (ltb (hex_value h) 16 && ltb (hex_value k) 16) t in
-    record {
-      high = h;
-      low = k;
-      x = hex_value h;
-      y = hex_value k;
-      is = e ∙ ap (λ (v : List ℕ). 82 ∷ space ∷ v) (two_is w two);
-      first = hex_is h (ltb-true (hex_value h) 16 (and_left (ltb (hex_value h) 16) (ltb (hex_value k) 16) both));
-      second = hex_is k (ltb-true (hex_value k) 16 (and_right (ltb (hex_value h) 16) (ltb (hex_value k) 16) both));
-      says = omega arith;
-    })
+    by (Says s) (eqb (length w) 2) (received_by (hex_value (get_or w 0 0)) (hex_value (get_or w 1 0))) Other
+    (λ t. digits_say s w e (eqb-true (length w) 2 t) (hex_value (get_or w 0 0)) (hex_value (get_or w 1 0)) refl refl)
     (λ t. tt)
 
-slots_says : (s w : List ℕ) → s ≡ 83 ∷ space ∷ w → (f : Field) → digits_of w ≡ f → Says s (slots_by f)
+slots_says : (s w : List ℕ) → s ≡ 83 ∷ space ∷ w → (f : Option ℕ) → digits_of w ≡ f → Says s (slots_by f)
 unfolding slots_by
-slots_says s w e field.Wrong r = tt
-slots_says s w e (field.Value n) r =
+slots_says s w e None r = tt
+slots_says s w e (Some n) r =
     by (Says s) (within 1 999 n) (Slots n) Other
     (λ t. record { text = w; is = e; number = number_is w n r; low = at_least 1 999 n t; high = at_most 1 999 n t })
     (λ t. tt)
@@ -80,9 +80,9 @@ abbrev pub numbers_at : ℕ → ℕ → List ℕ → List ℤ
 numbers_at zero i s = []
 numbers_at (suc n) i s = word_value (word i s) ∷ numbers_at n (suc i) s
 
-whole_value_is : (x : Whole) → is_value x ≡ true → x ≡ Value (whole_value x)
-whole_value_is (Value n) h = refl
-whole_value_is Wrong h = never (cc)
+whole_value_is : (x : Option ℤ) → is_value x ≡ true → x ≡ Some (whole_value x)
+whole_value_is (Some n) h = refl
+whole_value_is None h = never (cc)
 
 pub numbers_each : (s : List ℕ) (n i : ℕ) → number_words n s ≡ true → i < n → is_whole (word (suc i) s) ≡ true
 unfolding number_words

@@ -1,26 +1,29 @@
 -- Numbers by their text: what a word's first byte and its length decide. Assumes nothing.
 use Prim.Native.Nat.{ℕ, zero, suc, ◌≤◌, ◌<◌}
-use mathlib.Core.Bool.{true, false, false≢true}
+use mathlib.Core.Bool.{true, false, false≢true, ◌&&◌}
 use mathlib.Core.List.{List, [], ◌∷◌}
+use mathlib.Core.Logic.{◌≢◌}
 use mathlib.Core.Path.{◌≡◌, refl, sym, ap, ◌∙◌}
+use native.Mathlib.Numerals.{add-one}
 use native.Mathlib.Omega.{arith}
-use borrow.Author.Tests.{eq-eqb, ne_eqb, eqb-true, eqb-false}
-use lib.Dec.{eqb}
+use borrow.Author.Tests.{ne_eqb}
 use lib.IntN.{ℤ, pos, negsuc}
-use lib.ListN.{length, get_or, drop}
-use Rattle.laws.proofs.Tests.{told, never, and_both, and_fails, and_fails_by}
+use lib.ListN.{length, get_or, take}
+use Rattle.std.specs.List.{list_all, range_with_len}
+use Rattle.std.specs.Prelude.{None, Some}
+use Rattle.std.proofs.lemmas.List.Folds.{list_all_more}
+use Rattle.std.proofs.lemmas.List.FromFn.{get_or-range_with_len}
+use Rattle.laws.proofs.Tests.{never, and_both}
 use Rattle.sign.specs.Sign.{size, below0}
 use Rattle.digits.specs.Digits.{read_decimal}
-use Rattle.digits.specs.declared.Field.TheVariants as field
 use Rattle.digits.proofs.Laws.{digits_read}
 use Rattle.capture.specs.Numbers.{nine_digits, digits_of, whole_by, whole_of, is_whole, beyond, field_for}
 use Rattle.capture.specs.Words.{word}
 use Rattle.capture.specs.Capture.{number_words}
-use Rattle.capture.specs.declared.Whole.TheVariants.{Wrong}
 
 -- ---- digits
 
-pub number_none : (w : List ℕ) → length w ≡ 0 → field.Wrong ≡ digits_of w
+pub number_none : (w : List ℕ) → length w ≡ 0 → None ≡ digits_of w
 unfolding digits_of
 number_none [] e = refl
 number_none (d ∷ w) e = absurd (omega arith)
@@ -30,27 +33,17 @@ unfolding digits_of
 number_some [] e = absurd (e refl)
 number_some (d ∷ w) e = refl
 
-pub number_low : (w : List ℕ) (n : ℕ) → digits_of w ≡ field.Value n → n ≤ nine_digits
+pub number_low : (w : List ℕ) (n : ℕ) → digits_of w ≡ Some n → n ≤ nine_digits
 unfolding digits_of
 number_low [] n e = never (cc)
 number_low (d ∷ w) n e = (digits_read 10 48 (omega arith) (d ∷ w) n nine_digits e).0
 
 -- ---- a minus before them or none
 
-pub whole_none : (w : List ℕ) → length w ≡ 0 → Wrong ≡ whole_of w
-unfolding whole_of
-whole_none [] e = refl
-whole_none (b ∷ w) e = absurd (omega arith)
-
-pub whole_minus : (w : List ℕ) → get_or w 0 0 ≡ 45 → whole_of w ≡ whole_by true (digits_of (drop 1 w))
-unfolding whole_of
-whole_minus [] e = absurd (omega arith)
-whole_minus (b ∷ w) e = rw (eq-eqb _ _ e)
-
-pub whole_plain : (w : List ℕ) → (length w ≡ 0 → ⊥) → (get_or w 0 0 ≡ 45 → ⊥) → whole_of w ≡ whole_by false (digits_of w)
-unfolding whole_of
-whole_plain [] some e = absurd (some refl)
-whole_plain (b ∷ w) some e = rw (ne_eqb _ _ e)
+pub whole_plain : (w : List ℕ) → ((s : List ℕ) → w ≢ 45 ∷ s) → whole_by false (digits_of w) ≡ whole_of w
+unfolding whole_of digits_of
+whole_plain [] h = refl
+whole_plain (b ∷ s) h = rw (ne_eqb b 45 (λ e. h s (ap (λ (x : ℕ). x ∷ s) e)))
 
 -- ---- what a field is handed
 
@@ -64,15 +57,19 @@ field_size (negsuc n) e = absurd (false≢true (sym e))
 
 -- ---- the words of M
 
--- one word that is no number
-pub numbers_fail : (s : List ℕ) (n i : ℕ) → i < n → is_whole (word (suc i) s) ≡ false → number_words n s ≡ false
-unfolding number_words
-numbers_fail s zero i h e = absurd (omega arith)
-numbers_fail s (suc n) i h e =
-    told (eqb i n)
-    (λ t. sym (and_fails_by (number_words n s) (ap (λ (j : ℕ). is_whole (word (suc j) s)) (sym (eqb-true i n t)) ∙ e)))
-    (λ t. sym (and_fails (is_whole (word (suc n) s)) (numbers_fail s n i (omega (arith, eqb-false i n t)) e)))
-
 pub numbers_more : (s : List ℕ) (n : ℕ) → number_words n s ≡ true → is_whole (word (suc n) s) ≡ true → number_words (suc n) s ≡ true
 unfolding number_words
 numbers_more s n h e = and_both h e
+
+-- each of the first words
+pub numbers_listed : (s : List ℕ) (n : ℕ) → n ≤ 11 → number_words n s ≡ list_all (λ k. is_whole (word k s)) (take n (range_with_len 1 11))
+unfolding number_words
+numbers_listed s zero h = refl
+numbers_listed s (suc n) h =
+    let low : n < length (range_with_len 1 11) = omega arith in
+    let at : get_or (range_with_len 1 11) n 0 ≡ suc n = get_or-range_with_len 1 11 n 0 (omega arith) ∙ omega arith in
+    let more = list_all_more (λ k. is_whole (word k s)) (range_with_len 1 11) n 0 low in
+    ap (λ b. b && is_whole (word (suc n) s)) (numbers_listed s n (omega arith))
+    ∙ ap (λ k. list_all (λ j. is_whole (word j s)) (take n (range_with_len 1 11)) && is_whole (word k s)) (sym at)
+    ∙ sym more
+    ∙ ap (λ k. list_all (λ j. is_whole (word j s)) (take k (range_with_len 1 11))) (add-one n)

@@ -6,7 +6,9 @@ use native.Mathlib.Omega.{arith}
 use borrow.Author.Tests.{eq-eqb, ne_eqb, eqb-true}
 use lib.Dec.{eqb}
 use lib.ListN.{length, get_or, take, drop, length-drop, drop_of_length-le}
-use lib.Seq.{drop-cons, drop-drop, take-append_seam, drop-append-add}
+use lib.Seq.{drop-drop, take-append_seam, drop-append-add}
+use Rattle.std.specs.List.{count_by}
+use Rattle.std.proofs.lemmas.List.Recursion.{is_count_by}
 use Rattle.laws.proofs.Tests.{told}
 use Rattle.capture.specs.Words.{before, space, behind, word, spaces, sole}
 
@@ -19,35 +21,21 @@ before_low x (b ∷ s) =
     let h = before_low x s in
     told (eqb b x) (λ e. rw e (omega arith)) (λ e. rw e (omega arith))
 
-module _ (x : ℕ) (s : List ℕ) (i : ℕ) where
-  -- it is here
-  pub before_here : i < length s → get_or s i 0 ≡ x → before x (drop i s) ≡ 0
-  unfolding before
-  before_here more e = rw (drop-cons s i 0 more, eq-eqb _ _ e)
-
-  -- it is further on
-  pub before_later : i < length s → (get_or s i 0 ≡ x → ⊥) → before x (drop i s) ≡ suc (before x (drop (suc i) s))
-  unfolding before
-  before_later more e = rw (drop-cons s i 0 more, ne_eqb _ _ e)
-
-  pub before_none : length s ≤ i → before x (drop i s) ≡ 0
-  unfolding before
-  before_none done = rw (drop_of_length-le s done)
+-- the place of the first such byte
+pub before_is : (x : ℕ) (s : List ℕ) (n : ℕ) → n ≤ length s → ((k : ℕ) → k < n → get_or s k 0 ≡ x → ⊥) → (n < length s → get_or s n 0 ≡ x) → n ≡ before x s
+unfolding before
+before_is x [] n fits low here = omega arith
+before_is x (b ∷ s) zero fits low here = rw (eq-eqb b x (here (omega arith)))
+before_is x (b ∷ s) (suc n) fits low here =
+    rw (ne_eqb b x (low 0 (omega arith))) (ap suc (before_is x s n (omega arith) (λ k h. low (suc k) (omega arith)) (λ h. here (omega arith))))
 
 -- ---- spaces
 
-module _ (s : List ℕ) (i : ℕ) where
-  pub spaces_here : i < length s → get_or s i 0 ≡ space → spaces (drop i s) ≡ suc (spaces (drop (suc i) s))
-  unfolding spaces
-  spaces_here more e = rw (drop-cons s i 0 more, eq-eqb _ _ e)
-
-  pub spaces_later : i < length s → (get_or s i 0 ≡ space → ⊥) → spaces (drop i s) ≡ spaces (drop (suc i) s)
-  unfolding spaces
-  spaces_later more e = rw (drop-cons s i 0 more, ne_eqb _ _ e)
-
-  pub spaces_none : length s ≤ i → spaces (drop i s) ≡ 0
-  unfolding spaces
-  spaces_none done = rw (drop_of_length-le s done)
+-- the bytes that are spaces, counted
+pub spaces_counted : (s : List ℕ) → spaces s ≡ count_by (λ b. eqb b space) s
+unfolding spaces
+spaces_counted =
+    is_count_by spaces (λ b. eqb b space) refl (λ b s. told (eqb b space) (λ e. rw e (omega arith)) (λ e. rw e))
 
 -- ---- where a word starts
 

@@ -1,8 +1,6 @@
 -- A line of a capture, without its LF: `R hh`, `S n`, or `M` and its words; every other is of other form.
-use Rattle.std.specs.Prelude.{ℕ, zero, suc, ◌+◌, ◌*◌, Bool, true, cond, ◌&&◌, ◌||◌, List, ltb, eqb, length, get_or}
+use Rattle.std.specs.Prelude.{ℕ, zero, suc, ◌+◌, ◌*◌, Bool, true, cond, ◌&&◌, ◌||◌, List, eqb, length, get_or, None, Option, Some}
 use Rattle.laws.specs.Within.{within}
-use Rattle.digits.specs.declared.Field.{Field}
-use Rattle.digits.specs.declared.Field.TheVariants as field
 use Rattle.record.specs.declared.Figures.{Figures}
 use Rattle.units.specs.declared.Measurement.{Measurement}
 use Rattle.capture.specs.Words.{word, spaces, sole}
@@ -11,16 +9,18 @@ use Rattle.capture.specs.declared.Event.{Event}
 use Rattle.capture.specs.declared.Event.TheVariants.{Received, Slots, Measured, Other}
 
 -- "`hh`: two hex digits, either case"
+unfoldable pub received_by : Option ℕ → Option ℕ → Event
+received_by (Some high) (Some low) = Received (high * 16 + low)
+received_by (Some high) None = Other
+received_by None low = Other
+
 unfoldable pub received_of : List ℕ → Event
-received_of w =
-    let high = hex_value (get_or w 0 0) in
-    let low = hex_value (get_or w 1 0) in
-    cond (eqb (length w) 2 && (ltb high 16 && ltb low 16)) (Received (high * 16 + low)) Other
+received_of w = cond (eqb (length w) 2) (received_by (hex_value (get_or w 0 0)) (hex_value (get_or w 1 0))) Other
 
 -- "n slots, 1..999"
-unfoldable pub slots_by : Field → Event
-slots_by (field.Value n) = cond (within 1 999 n) (Slots n) Other
-slots_by field.Wrong = Other
+unfoldable pub slots_by : Option ℕ → Event
+slots_by (Some n) = cond (within 1 999 n) (Slots n) Other
+slots_by None = Other
 
 abbrev pub slots_of : List ℕ → Event
 slots_of w = slots_by (digits_of w)

@@ -1,8 +1,7 @@
 -- Which lines are which events, said of their bytes and apart from how they are read: statements only.
-use Rattle.std.specs.Prelude.{ℕ, suc, ◌+◌, ◌-◌, ◌*◌, ◌≤◌, true, List, [], ◌∷◌, ◌++◌, ◌↔◌, ◌⊎◌, ◌≢◌, ◌≡◌, ℤ, pos, negsuc, length, get_or}
+use Rattle.std.specs.Prelude.{ℕ, suc, ◌+◌, ◌-◌, ◌*◌, ◌≤◌, true, List, [], ◌∷◌, ◌++◌, ◌↔◌, ◌⊎◌, ◌≢◌, ◌≡◌, ℤ, pos, negsuc, length, get_or, Err}
 use Rattle.sign.specs.Sign.{signed_of}
 use Rattle.refusal.specs.declared.Refusal.TheVariants.{Field}
-use Rattle.refusal.specs.declared.Verdict.TheVariants.{Refused}
 use Rattle.digits.specs.Digits.{value, are_digits}
 use Rattle.record.specs.declared.Figures.{Figures}
 use Rattle.units.specs.Measurement.{measurement_verdict}
@@ -109,7 +108,7 @@ pub record Forms : Type 0 where
   pub slots : (s : List ℕ) (n : ℕ) → (event_of s ≡ Slots n) ↔ SaysSlots s n
   pub measured : (s : List ℕ) (m : Measurement) → (event_of s ≡ Measured m) ↔ SaysMeasurement s m
   -- and a number below zero where none may stand is refused by 1
-  pub beyond : (m : Measurement) → Beyond m.figures → (i : ℕ) × (measurement_verdict m ≡ Refused (Field i))
+  pub beyond : (m : Measurement) → Beyond m.figures → (i : ℕ) × (measurement_verdict m ≡ Err (Field i))
 
 -- what stands before a byte
 pub record OfBefore : Type 0 where

@@ -8,7 +8,6 @@ ghost use Rattle.capture.specs.Numbers.{hex_value, digits_of, whole_by, whole_of
 ghost use Rattle.capture.specs.Capture.{received_of, slots_of, number_words, is_letter, figures_at, is_measurement};
 ghost use Rattle.capture.specs.Clauses.{BytesBefore, EventOf};
 
-use digits::Field;
 use record::Figures;
 use units::Measurement;
 
@@ -23,13 +22,6 @@ pub enum Event {
     Measured(Measurement),
     // A line of other form (10).
     Other,
-}
-
-// What a word of M says: a whole number, or what is none.
-#[derive(Clone, Copy)]
-enum Whole {
-    Value(i32),
-    Wrong,
 }
 
 // The largest number of nine digits, and the most slots of a line.
@@ -51,14 +43,7 @@ const BEYOND: u32 = 4294967295;
 pub fn bytes_before(s: &[u8], byte: u8) -> usize
     ensures { BytesBefore s.now byte result }
 {
-    let mut i = 0;
-    while i < s.len() {
-        if s[i] == byte {
-            return i;
-        }
-        i += 1;
-    }
-    i
+    s.iter().position(|b| *b == byte).unwrap_or(s.len())
 }
 
 // Where the word behind k spaces starts; at the end where there are fewer.
@@ -66,14 +51,12 @@ fn word_start(line: &[u8], k: usize) -> usize
     ensures { StartsWord line.now k result }
 {
     let mut at = 0;
-    let mut i = 0;
-    while i < k {
+    for _ in 0..k {
         let n = bytes_before(&line[at..], b' ');
         if line.len() - at <= n {
             return line.len();
         }
-        at = at + n + 1;
-        i += 1;
+        at += n + 1;
     }
     at
 }
@@ -91,47 +74,39 @@ fn word(line: &[u8], k: usize) -> &[u8]
 fn space_count(line: &[u8]) -> usize
     ensures { result ≡ spaces line.now }
 {
-    let mut count = 0;
-    let mut i = 0;
-    while i < line.len() {
-        if line[i] == b' ' {
-            count += 1;
-        }
-        i += 1;
-    }
-    count
+    line.iter().filter(|b| **b == b' ').count()
 }
 
-// The byte of a word of one; 0 for a longer one, and for none.
+// The byte of a word of one; 0, which is no letter, for a longer one and for none.
 fn sole_byte(word: &[u8]) -> u8
     ensures { result ≡ sole word.now }
 {
-    if word.len() != 1 {
-        return 0;
+    match word {
+        [b] => *b,
+        _ => 0,
     }
-    word[0]
 }
 
 // ---- numbers
 
-// The value of a hex digit of either case; 16 for every other byte.
-fn hex_value(digit: u8) -> u8
+// The value of a hex digit of either case. (`to_digit` takes a char and gives a u32: no plainer.)
+fn hex_value(digit: u8) -> Option<u8>
     ensures { result ≡ hex_value digit }
 {
     match digit {
-        b'0'..=b'9' => digit - b'0',
-        b'A'..=b'F' => digit - b'A' + 10,
-        b'a'..=b'f' => digit - b'a' + 10,
-        _ => 16,
+        b'0'..=b'9' => Some(digit - b'0'),
+        b'A'..=b'F' => Some(digit - b'A' + 10),
+        b'a'..=b'f' => Some(digit - b'a' + 10),
+        _ => None,
     }
 }
 
 // 1 to 9 digits.
-fn digits_of(word: &[u8]) -> Field
+fn digits_of(word: &[u8]) -> Option<u32>
     ensures { result ≡ digits_of word.now }
 {
     if word.len() == 0 {
-        return Field::Wrong;
+        return None;
     }
     digits::read_decimal(word, NINE_DIGITS)
 }
@@ -142,51 +117,37 @@ fn signed(below: bool, n: u32) -> i32
     ensures { result ≡ signed_of below n }
 {
     let w = n as i32;
-    if below { 0 - w } else { w }
+    if below { -w } else { w }
 }
 
 // 1 to 9 digits with this sign before them.
-fn signed_number(below: bool, word: &[u8]) -> Whole
+fn signed_number(below: bool, word: &[u8]) -> Option<i32>
     ensures { result ≡ whole_by below (digits_of word.now) }
 {
-    let Field::Value(n) = digits_of(word) else {
-        return Whole::Wrong;
-    };
-    Whole::Value(signed(below, n))
+    Some(signed(below, digits_of(word)?))
 }
 
 // 1 to 9 digits, with a minus before them or none.
-fn whole_of(word: &[u8]) -> Whole
+fn whole_of(word: &[u8]) -> Option<i32>
     ensures { result ≡ whole_of word.now }
 {
-    if word.len() == 0 {
-        return Whole::Wrong;
+    match word.strip_prefix(b"-") {
+        Some(digits) => signed_number(true, digits),
+        None => signed_number(false, word),
     }
-    if word[0] == b'-' {
-        return signed_number(true, &word[1..]);
-    }
-    signed_number(false, word)
 }
 
 fn is_whole(word: &[u8]) -> bool
     ensures { result ≡ is_whole word.now }
 {
-    let whole = whole_of(word);
-    match whole {
-        Whole::Value(_) => true,
-        Whole::Wrong => false,
-    }
+    whole_of(word).is_some()
 }
 
 // The number that a word is; 0 where it is none.
 fn word_value(word: &[u8]) -> i32
     ensures { result ≡ word_value word.now }
 {
-    let whole = whole_of(word);
-    match whole {
-        Whole::Value(n) => n,
-        Whole::Wrong => 0,
-    }
+    whole_of(word).unwrap_or(0)
 }
 
 // What a field that holds no number below zero is handed.
@@ -205,74 +166,51 @@ fn field_for(n: i32) -> u32
 fn received_of(word: &[u8]) -> Event
     ensures { result ≡ received_of word.now }
 {
-    if word.len() != 2 {
+    let [first, second] = word else {
         return Event::Other;
-    }
-    let high = hex_value(word[0]);
-    let low = hex_value(word[1]);
-    if high < 16 {
-        if low < 16 {
-            return Event::Received(high * 16 + low);
-        }
-    }
-    Event::Other
+    };
+    let Some(high) = hex_value(*first) else {
+        return Event::Other;
+    };
+    let Some(low) = hex_value(*second) else {
+        return Event::Other;
+    };
+    Event::Received(high * 16 + low)
 }
 
 // `n`: 1..999.
+#[tactic(auto, unfolding(crate::specs::Capture::slots_by, laws::specs::Within::within))]
 fn slots_of(word: &[u8]) -> Event
     ensures { result ≡ slots_of word.now }
 {
-    let Field::Value(n) = digits_of(word) else {
-        return Event::Other;
-    };
-    if n == 0 {
-        return Event::Other;
+    match digits_of(word) {
+        Some(n @ 1..=MOST_SLOTS) => Event::Slots(n),
+        _ => Event::Other,
     }
-    if MOST_SLOTS < n {
-        return Event::Other;
-    }
-    Event::Slots(n)
 }
 
 // Whether the eleven words behind M are numbers.
 fn are_numbers(line: &[u8]) -> bool
     ensures { result ≡ number_words 11 line.now }
 {
-    let mut i = 0;
-    while i < M_NUMBERS {
-        if !is_whole(word(line, i + 1)) {
-            return false;
-        }
-        i += 1;
-    }
-    true
+    (1..M_NUMBERS + 1).all(|k| is_whole(word(line, k)))
 }
 
 // A letter, of either case.
 fn is_letter(byte: u8) -> bool
     ensures { result ≡ is_letter byte }
 {
-    match byte {
-        b'A'..=b'Z' => true,
-        b'a'..=b'z' => true,
-        _ => false,
-    }
+    byte.is_ascii_alphabetic()
 }
 
 // Whether the words behind M are eleven numbers, a letter and a number.
 fn is_measurement(line: &[u8]) -> bool
     ensures { result ≡ is_measurement line.now }
 {
-    if space_count(line) != M_SPACES {
-        return false;
-    }
-    if !are_numbers(line) {
-        return false;
-    }
-    if !is_letter(sole_byte(word(line, 12))) {
-        return false;
-    }
-    is_whole(word(line, 13))
+    space_count(line) == M_SPACES
+        && are_numbers(line)
+        && is_letter(sole_byte(word(line, 12)))
+        && is_whole(word(line, 13))
 }
 
 // The field that the word behind k spaces gives.
@@ -283,6 +221,7 @@ fn field_at(line: &[u8], k: usize) -> u32
 }
 
 // Fields 1 to 11.
+#[tactic(auto, unfolding(crate::specs::Capture::figures_at))]
 fn figures_at(line: &[u8]) -> Figures
     ensures { result ≡ figures_at line.now }
 {
@@ -305,23 +244,15 @@ fn figures_at(line: &[u8]) -> Figures
 pub fn event_of(line: &[u8]) -> Event
     ensures { EventOf line.now result }
 {
-    let kind = sole_byte(word(line, 0));
     let pair = space_count(line) == 1;
-    if (kind == b'R') & pair {
-        return received_of(word(line, 1));
+    match sole_byte(word(line, 0)) {
+        b'R' if pair => received_of(word(line, 1)),
+        b'S' if pair => slots_of(word(line, 1)),
+        b'M' if is_measurement(line) => Event::Measured(Measurement {
+            unit: sole_byte(word(line, 12)),
+            figures: figures_at(line),
+            temperature: word_value(word(line, 13)),
+        }),
+        _ => Event::Other,
     }
-    if (kind == b'S') & pair {
-        return slots_of(word(line, 1));
-    }
-    if kind != b'M' {
-        return Event::Other;
-    }
-    if !is_measurement(line) {
-        return Event::Other;
-    }
-    Event::Measured(Measurement {
-        unit: sole_byte(word(line, 12)),
-        figures: figures_at(line),
-        temperature: word_value(word(line, 13)),
-    })
 }

@@ -10,12 +10,11 @@ use borrow.Author.Tests.{leb-true, leb-false, le-leb}
 use lib.Dec.{leb}
 use lib.ListN.{length, take, drop, get_or, replicate, length-take, length-drop}
 use lib.Seq.{take_all, take_at, drop_at, take-take}
+use Rattle.std.specs.Prelude.{None, Option, Some}
 use Rattle.laws.specs.Member.{◌∈◌}
 use Rattle.laws.proofs.ListLaws.{drop_of_take}
 use Rattle.laws.proofs.Tests.{told, never, cond_yes, cond_no}
 use Rattle.digits.specs.Digits.{read_field, widest}
-use Rattle.digits.specs.declared.Field.{Field}
-use Rattle.digits.specs.declared.Field.TheVariants.{Value, Wrong}
 use Rattle.codec.specs.Codec.{Got, got, wrong, Codec, spellings, passed, both, mapped, chained, field_says, number, printable, text, letter, starts_with, tagged, ◌⊗◌, via_iso, through}
 use Rattle.codec.specs.Places.{Place, alone, further, field_of, Spelt, FirstWrong}
 use Rattle.codec.proofs.Exact.{Exact, spelt_read, Codes, fine, first_zero, zero_first, number_exact, text_exact, letter_exact, tagged_exact, ⊗_exact, iso_exact, through_exact}
@@ -61,10 +60,10 @@ unfolding passed
 passed_wrong true i a j e = never (cc)
 passed_wrong false i a j e = cc
 
-pub field_wrong : (i : ℕ) (f : Field) (j : ℕ) → field_says i f ≡ wrong j → j ≡ i
+pub field_wrong : (i : ℕ) (f : Option ℕ) (j : ℕ) → field_says i f ≡ wrong j → j ≡ i
 unfolding field_says
-field_wrong i (Value n) j e = never (cc)
-field_wrong i Wrong j e = cc
+field_wrong i (Some n) j e = never (cc)
+field_wrong i None j e = cc
 
 chained_wrong : {A B : Type 0} (f : A → Got B) (q : Got A) (i : ℕ) → ((j : ℕ) → q ≡ wrong j → j ≡ i) → ((a : A) (j : ℕ) → f a ≡ wrong j → j ≡ i) →
     (j : ℕ) → chained f q ≡ wrong j → j ≡ i

@@ -10,12 +10,11 @@ use borrow.Author.Tests.{leb-true, le-leb, eqb-true, eq-eqb}
 use lib.ListN.{length, take, drop, get_or, length-append, length-take, length-drop, take-append-drop}
 use lib.Seq.{take_at, drop_at}
 use lib.Dec.{leb, eqb}
+use Rattle.std.specs.Prelude.{None, Option, Some}
 use Rattle.laws.specs.Member.{◌∈◌}
 use Rattle.laws.proofs.MemberLaws.{as_member, map_in, in_map}
 use Rattle.laws.proofs.Tests.{cond_yes, cond_no, told, never}
 use Rattle.digits.specs.Digits.{digits, read_field, widest}
-use Rattle.digits.specs.declared.Field.{Field}
-use Rattle.digits.specs.declared.Field.TheVariants.{Value, Wrong}
 use Rattle.digits.proofs.Laws.{length_digits, read_digits_lem, digits_read}
 use Rattle.codec.specs.Codec.{Got, got, wrong, Codec, spellings, each, passed, failing, first, both, mapped, chained, field_says, number, printable, text, letter, starts_with, tagged, ◌⊗◌, via_iso, through}
 use Rattle.codec.proofs.Spellings.{each_in, in_each, all_in, in_all}
@@ -94,10 +93,10 @@ unfolding chained
 chained_is f (got a) b e = (a, refl, e)
 chained_is f (wrong j) b e = never (cc)
 
-pub field_is : (i : ℕ) (f : Field) (n : ℕ) → field_says i f ≡ got n → f ≡ Value n
+pub field_is : (i : ℕ) (f : Option ℕ) (n : ℕ) → field_says i f ≡ got n → f ≡ Some n
 unfolding field_says
-field_is i (Value v) n e = cc
-field_is i Wrong n e = never (cc)
+field_is i (Some v) n e = cc
+field_is i None n e = never (cc)
 
 -- ---- the fields
 

@@ -8,32 +8,31 @@ use borrow.Author.Tests.{eq-eqb, ne_eqb}
 use lib.Dec.{eqb}
 use lib.ListN.{length, take, drop, get_or}
 use lib.Seq.{take_all}
+use Rattle.std.specs.Prelude.{None, Option, Some}
 use Rattle.laws.proofs.Tests.{cond_yes, cond_no, told, never}
 use Rattle.digits.specs.Digits.{read_field, read_decimal}
-use Rattle.digits.specs.declared.Field.{Field}
-use Rattle.digits.specs.declared.Field.TheVariants.{Value, Wrong}
 use Rattle.digits.proofs.Laws.{digits_read}
 use Rattle.codec.specs.Codec.{Codec, Got, got, wrong, passed, both, field_says, number, text, starts_with, tagged, read_tagged, text_behind, read_whole, parsed}
 
 -- ---- a number, by what its reader answered
 
-pub gave : (i : ℕ) {r f : Field} {n : ℕ} → r ≡ f → r ≡ Value n → field_says i f ≡ got n
+pub gave : (i : ℕ) {r f : Option ℕ} {n : ℕ} → r ≡ f → r ≡ Some n → field_says i f ≡ got n
 unfolding field_says
 gave i e g = ap (field_says i) (sym e ∙ g)
 
-pub refused : (i : ℕ) {r f : Field} → r ≡ f → r ≡ Wrong → field_says i f ≡ wrong i
+pub refused : (i : ℕ) {r f : Option ℕ} → r ≡ f → r ≡ None → field_says i f ≡ wrong i
 unfolding field_says
 refused i e g = ap (field_says i) (sym e ∙ g)
 
 -- ---- a field behind its tag
 
-module _ (t : ℕ) (read : List ℕ → Field) where
-  pub untagged : (s : List ℕ) → (get_or s 0 0 ≡ t → ⊥) → Wrong ≡ read_tagged t read s
+module _ (t : ℕ) (read : List ℕ → Option ℕ) where
+  pub untagged : (s : List ℕ) → (get_or s 0 0 ≡ t → ⊥) → None ≡ read_tagged t read s
   unfolding read_tagged
   untagged [] n = refl
   untagged (x ∷ s) n = rw (ne_eqb x t n)
 
-  pub behind_tag : (s : List ℕ) {f : Field} → 0 < length s → get_or s 0 0 ≡ t → f ≡ read (take (length s - 1) (drop 1 s)) → f ≡ read_tagged t read s
+  pub behind_tag : (s : List ℕ) {f : Option ℕ} → 0 < length s → get_or s 0 0 ≡ t → f ≡ read (take (length s - 1) (drop 1 s)) → f ≡ read_tagged t read s
   unfolding read_tagged
   behind_tag [] h y e = absurd (omega arith)
   behind_tag (x ∷ s) h y e = rw (eq-eqb x t y) (e ∙ ap read (take_all (length (x ∷ s) - 1) s (omega arith)))
@@ -46,12 +45,12 @@ pub tagged_number : (t i b off w top : ℕ) (s : List ℕ) → field_says i (rea
 tagged_number t i b off w top s = tagged_says t (read_field b off top) i (number i b off w top) s refl
 
 -- a number that was read is at most what was asked for
-pub tagged_low : (t top n : ℕ) (s : List ℕ) → read_tagged t (read_decimal top) s ≡ Value n → n ≤ top
+pub tagged_low : (t top n : ℕ) (s : List ℕ) → read_tagged t (read_decimal top) s ≡ Some n → n ≤ top
 unfolding read_tagged
 tagged_low t top n s e =
     told (starts_with t s)
-    (λ y. (digits_read 10 48 (omega arith) (drop 1 s) n top (sym (cond_yes _ Wrong y) ∙ e)).0)
-    (λ no. let z : Wrong ≡ Value n = sym (cond_no _ Wrong no) ∙ e in never (cc))
+    (λ y. (digits_read 10 48 (omega arith) (drop 1 s) n top (sym (cond_yes _ None y) ∙ e)).0)
+    (λ no. let z : None ≡ Some n = sym (cond_no _ None no) ∙ e in never (cc))
 
 -- ---- a text behind its tags
 
@@ -68,7 +67,7 @@ text_behind_lem (t ∷ ts) i w (x ∷ s) = told (eqb x t) (λ e. rw e (text_behi
 
 -- ---- bytes of the right number, and of another
 
-pub read_whole_lem : (w : ℕ) (read : List ℕ → Field) (s : List ℕ) → length s ≡ w → read_whole w read s ≡ read s
+pub read_whole_lem : (w : ℕ) (read : List ℕ → Option ℕ) (s : List ℕ) → length s ≡ w → read_whole w read s ≡ read s
 unfolding read_whole
 read_whole_lem w read s l = cond_yes _ _ (eq-eqb _ _ l)
 

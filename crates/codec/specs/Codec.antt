@@ -1,9 +1,7 @@
 -- A field of a message: how many bytes it takes, which values may be sent, how one is written and else spelt, and what a reader finds.
-use Rattle.std.specs.Prelude.{ℕ, zero, suc, ◌+◌, List, [], ◌∷◌, ◌++◌, map, Bool, false, ◌&&◌, cond, length, take, drop, get_or, replicate, leb, eqb}
+use Rattle.std.specs.Prelude.{ℕ, zero, suc, ◌+◌, List, [], ◌∷◌, ◌++◌, map, Bool, false, ◌&&◌, cond, length, take, drop, get_or, replicate, leb, eqb, None, Option, Some}
 use Rattle.laws.specs.Every.{every}
 use Rattle.digits.specs.Digits.{digits, read_field}
-use Rattle.digits.specs.declared.Field.{Field}
-use Rattle.digits.specs.declared.Field.TheVariants.{Value, Wrong}
 
 -- what a reader finds: the value, or the first wrong field
 pub data Got (A : Type 0) : Type 0 where
@@ -46,6 +44,11 @@ unfoldable pub first : ℕ → ℕ → ℕ
 first zero j = j
 first (suc i) j = suc i
 
+-- the lowest field or item out of range, as the code answers it: 0 is none
+unfoldable pub lowest_named : ℕ → Option ℕ
+lowest_named zero = None
+lowest_named (suc i) = Some (suc i)
+
 unfoldable pub both : {A B : Type 0} → Got A → Got B → Got (A × B)
 both (wrong i) q = wrong i
 both (got a) (wrong j) = wrong j
@@ -60,9 +63,9 @@ chained f (wrong i) = wrong i
 chained f (got a) = f a
 
 -- what a reader of numbers says of field i
-unfoldable pub field_says : ℕ → Field → Got ℕ
-field_says i (Value n) = got n
-field_says i Wrong = wrong i
+unfoldable pub field_says : ℕ → Option ℕ → Got ℕ
+field_says i (Some n) = got n
+field_says i None = wrong i
 
 -- field i, a number of at most top as w digits
 abbrev pub number : ℕ → ℕ → ℕ → ℕ → ℕ → Codec ℕ
@@ -159,8 +162,8 @@ through i ok enc more dec c = record {
 -- ---- what the code's readers answer
 
 -- a tag, and what is read behind it
-unfoldable pub read_tagged : ℕ → (List ℕ → Field) → List ℕ → Field
-read_tagged t read s = cond (starts_with t s) (read (drop 1 s)) Wrong
+unfoldable pub read_tagged : ℕ → (List ℕ → Option ℕ) → List ℕ → Option ℕ
+read_tagged t read s = cond (starts_with t s) (read (drop 1 s)) None
 
 -- a text behind tags
 unfoldable pub text_behind : List ℕ → List ℕ → Bool
@@ -168,8 +171,8 @@ text_behind [] s = printable s
 text_behind (t ∷ ts) s = starts_with t s && text_behind ts (drop 1 s)
 
 -- bytes of exactly w; of another number they are no value
-unfoldable pub read_whole : ℕ → (List ℕ → Field) → List ℕ → Field
-read_whole w read s = cond (eqb (length s) w) (read s) Wrong
+unfoldable pub read_whole : ℕ → (List ℕ → Option ℕ) → List ℕ → Option ℕ
+read_whole w read s = cond (eqb (length s) w) (read s) None
 
 -- the same of a codec: of another number than it takes, field i, its first, is wrong
 unfoldable pub parsed : {A : Type 0} → Codec A → ℕ → List ℕ → Got A

@@ -4,18 +4,13 @@
 
 ghost use Rattle.codec.specs.Clauses.{IsText, IsBehind, PutItem, PutTagged, ReadTagged};
 
-use digits::Field;
-
 // Whether every byte may stand in a text. To look at each costs less than to stop at the first that may not.
 pub fn is_text(s: &[u8]) -> bool
     ensures { IsText s.now result }
 {
     let mut all = true;
-    let mut i = 0;
-    while i < s.len() {
-        let byte = s[i];
-        all = all & ((b' ' <= byte) & (byte <= b'~'));
-        i += 1;
+    for &byte in s {
+        all &= (b' ' <= byte) & (byte <= b'~');
     }
     all
 }
@@ -24,17 +19,7 @@ pub fn is_text(s: &[u8]) -> bool
 pub fn is_behind(s: &[u8], tags: &[u8]) -> bool
     ensures { IsBehind s.now tags.now result }
 {
-    let mut i = 0;
-    while i < tags.len() {
-        if s.len() <= i {
-            return false;
-        }
-        if s[i] != tags[i] {
-            return false;
-        }
-        i += 1;
-    }
-    is_text(&s[i..])
+    s.strip_prefix(tags).is_some_and(is_text)
 }
 
 // Writes a text over the whole of an item; one of another length is not written.
@@ -62,14 +47,14 @@ pub fn put_tagged(out: &mut [u8], at: usize, tag: u8, width: usize, n: u32)
 }
 
 // Reads a tag and the decimal digits of a number that is at most top.
-pub fn read_tagged(s: &[u8], tag: u8, top: u32) -> Field
+pub fn read_tagged(s: &[u8], tag: u8, top: u32) -> Option<u32>
     ensures { ReadTagged s.now tag top result }
 {
     if s.len() == 0 {
-        return Field::Wrong;
+        return None;
     }
     if s[0] != tag {
-        return Field::Wrong;
+        return None;
     }
     digits::read_decimal(&s[1..], top)
 }

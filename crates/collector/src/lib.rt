@@ -7,6 +7,7 @@ ghost use Rattle.collector.specs.Clauses.{LineAfter, Answered, Collect, Lend};
 use line::Line;
 use refusal::Refusal;
 
+// C is answered this; it has no Option.
 #[repr(C)]
 #[derive(Clone, Copy)]
 pub struct Collected {

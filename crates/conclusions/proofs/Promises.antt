@@ -7,10 +7,11 @@ use mathlib.Core.Logic.{◌↔◌, ◌⊎◌, inl, inr}
 use mathlib.Core.Path.{◌≡◌, refl, sym, ap, ◌∙◌, subst}
 use lib.IntN.{ℤ}
 use lib.ListN.{length, drop}
+use Rattle.std.specs.Prelude.{Err, Ok}
 use Rattle.laws.specs.Member.{◌∈◌}
 use Rattle.laws.proofs.OneAnswer.{one_outcome}
 use Rattle.laws.proofs.Tests.{never}
-use Rattle.refusal.specs.Answer.{Answer, accepted, refused}
+use Rattle.refusal.specs.Answer.{Answer}
 use Rattle.refusal.specs.declared.Refusal.{Refusal}
 use Rattle.refusal.specs.declared.Refusal.TheVariants.{Room}
 use Rattle.codec.specs.Codec.{Codec, spellings}
@@ -50,7 +51,7 @@ module _ {A : Type 0} (form : Codec A) (rule : A → ℕ) (low : ℕ → Refusal
     read = read_of form checksum m
 
     -- of a spelling of sendable contents the room decides
-    call_of_lem : (a : A) → rule a ≡ 0 → m ∈ messages_of form checksum a → Lays bytes width (accepted a) out r after
+    call_of_lem : (a : A) → rule a ≡ 0 → m ∈ messages_of form checksum a → Lays bytes width (Ok a) out r after
     call_of_lem a z e = subst (λ (x : Answer A). Lays bytes width x out r after) ((faithful.exactly checksum m a).1 (z, e)) call
 
     done : r.number ≡ 0 → (r.value ≡ width) × ((a : A) × (rule a ≡ 0) × (m ∈ messages_of form checksum a) × (after ≡ bytes a ++ drop width out))
@@ -65,7 +66,7 @@ module _ {A : Type 0} (form : Codec A) (rule : A → ℕ) (low : ℕ → Refusal
     fits : (a : A) → rule a ≡ 0 → width ≤ length out → m ∈ messages_of form checksum a → (r.number ≡ 0) × (after ≡ bytes a ++ drop width out)
     unfolding then_write
     fits a z h e =
-        let w : then_write width (accepted a) out ≡ accepted width = room_enough width (length out) h in
+        let w : then_write width (Ok a) out ≡ Ok width = room_enough width (length out) h in
         let l = call_of_lem a z e in
         (ap (λ (x : host.Answer). x.number) (l.answers ∙ ap answer_of w), l.leaves ∙ (then_bytes bytes width out a width (lies.long a z) w).1)
 
@@ -81,13 +82,13 @@ module _ {A : Type 0} (form : Codec A) (rule : A → ℕ) (low : ℕ → Refusal
         ReadWhen rule (spellings form) places plain checksum m x ⊎
         ((x ≡ Room width) × (length out < width) × ((a : A) × (rule a ≡ 0) × (m ∈ messages_of form checksum a)))
 
-    has_case : (x : Refusal) → then_write width read out ≡ refused x → Case x
+    has_case : (x : Refusal) → then_write width read out ≡ Err x → Case x
     has_case x e = by (then_refused width read out x e) where
-      by : (read ≡ refused x) ⊎ ((x ≡ Room width) × (length out < width) × ((a : A) × (read ≡ accepted a))) → Case x
+      by : (read ≡ Err x) ⊎ ((x ≡ Room width) × (length out < width) × ((a : A) × (read ≡ Ok a))) → Case x
       by (inl q) = inl ((exact.read_when checksum m x).0 q)
       by (inr (k, h, (a, q))) = let p = (faithful.exactly checksum m a).0 q in inr (k, h, (a, p.0, p.1))
 
-    of_case : (x : Refusal) → Case x → then_write width read out ≡ refused x
+    of_case : (x : Refusal) → Case x → then_write width read out ≡ Err x
     of_case x (inl w) = refused_then width read out x (inl ((exact.read_when checksum m x).1 w))
     of_case x (inr (k, h, (a, z, e))) = refused_then width read out x (inr (k, h, (a, (faithful.exactly checksum m a).1 (z, e))))
 
@@ -129,7 +130,7 @@ module _ {A : Type 0} (form : Codec A) (rule : A → ℕ) (low : ℕ → Refusal
 
 -- ---- old lines
 
-moved : (n : ℕ) (line : Answer (List ℕ)) (out : List ℕ) → ((l : List ℕ) → line ≡ accepted l → length l ≡ n) → (r : host.Answer) (after : List ℕ) → Lays (λ l. l) n line out r after →
+moved : (n : ℕ) (line : Answer (List ℕ)) (out : List ℕ) → ((l : List ℕ) → line ≡ Ok l → length l ≡ n) → (r : host.Answer) (after : List ℕ) → Lays (λ l. l) n line out r after →
     Moved n line out r after
 moved n line out long r after call =
     let answer = then_write n line out in
@@ -153,7 +154,7 @@ module _ (field : ℕ) (z : ℤ) (unit wanted : ℕ) (r : Conversion) (call : r 
   converted : r.number ≡ 0 → Converts unit wanted z r.value × (unit ≡ wanted → r.value ≡ z) × (r.field ≡ 0)
   converted o =
       let w = was_done conversions r number call o in
-      let is : r ≡ conversion_of (accepted w.0) = call ∙ ap conversion_of w.1 in
+      let is : r ≡ conversion_of (Ok w.0) = call ∙ ap conversion_of w.1 in
       let v : r.value ≡ w.0 = ap (λ (x : Conversion). x.value) is in (
         subst (Converts unit wanted z) (sym v) (demand2.converts field z w.0 unit wanted w.1),
         λ e. v ∙ demand2.alike field z w.0 unit (ap (conversion field z unit) e ∙ w.1),
@@ -172,22 +173,22 @@ module _ (field : ℕ) (z : ℤ) (unit wanted : ℕ) (r : Conversion) (call : r 
 
 -- ---- the owner's part
 
-asked_accepted : {A : Type 0} (part : Answer A → ℕ) (q : Answer A) (n : ℕ) → (asked_of part q ≡ accepted n) ↔ ((a : A) × (q ≡ accepted a) × (n ≡ part (accepted a)))
+asked_accepted : {A : Type 0} (part : Answer A → ℕ) (q : Answer A) (n : ℕ) → (asked_of part q ≡ Ok n) ↔ ((a : A) × (q ≡ Ok a) × (n ≡ part (Ok a)))
 unfolding asked_of
-asked_accepted part (accepted a) n = (λ e. (a, refl, cc), λ p. cc)
-asked_accepted part (refused x) n = (λ e. never (cc), λ p. never (cc))
+asked_accepted part (Ok a) n = (λ e. (a, refl, cc), λ p. cc)
+asked_accepted part (Err x) n = (λ e. never (cc), λ p. never (cc))
 
-asked_refused : {A : Type 0} (part : Answer A → ℕ) (q : Answer A) (x : Refusal) → (asked_of part q ≡ refused x) ↔ (q ≡ refused x)
+asked_refused : {A : Type 0} (part : Answer A → ℕ) (q : Answer A) (x : Refusal) → (asked_of part q ≡ Err x) ↔ (q ≡ Err x)
 unfolding asked_of
-asked_refused part (accepted a) x = (λ e. never (cc), λ e. never (cc))
-asked_refused part (refused y) x = (λ e. cc, λ e. cc)
+asked_refused part (Ok a) x = (λ e. never (cc), λ e. never (cc))
+asked_refused part (Err y) x = (λ e. cc, λ e. cc)
 
 module _ (part : Answer Fixed → ℕ) (m : List ℕ) (checksum : Bool) (r : host.Answer) (call : r ≡ answer_of (asked_of part (read_of fixed_form checksum m))) where
   abbrev fixed : Answer Fixed
   fixed = read_of fixed_form checksum m
 
-  of_fixed : (n : ℕ) → ((f : Fixed) × (fixed ≡ accepted f) × (n ≡ part (accepted f))) ↔
-      ((f : Fixed) × (fixed_lowest f ≡ 0) × (m ≡ message_of fixed_form checksum f) × (n ≡ part (accepted f)))
+  of_fixed : (n : ℕ) → ((f : Fixed) × (fixed ≡ Ok f) × (n ≡ part (Ok f))) ↔
+      ((f : Fixed) × (fixed_lowest f ≡ 0) × (m ≡ message_of fixed_form checksum f) × (n ≡ part (Ok f)))
   of_fixed n = (
     λ p. let q = (demand2.fixed.exactly checksum m p.0).0 p.1 in (p.0, q.0, sym (demand2.fixed.writes_read checksum m p.0 p.1 (demand2.fixed_once p.0)), p.2),
     λ p. (p.0, (demand2.fixed.exactly checksum m p.0).1 (p.1, inl p.2), p.3),

@@ -4,25 +4,24 @@ use mathlib.Core.Bool.{true, false}
 use mathlib.Core.List.{List}
 use mathlib.Core.Logic.Iff
 use mathlib.Core.Path.{◌≡◌, refl, sym, ap, ◌∙◌}
+use Rattle.std.specs.Prelude.{Err, Ok}
 use Rattle.laws.specs.Gives.{Gives}
 use Rattle.laws.proofs.Tests.{told}
-use Rattle.refusal.specs.Answer.{accepted}
+use Rattle.refusal.specs.Answer.{Answer}
 use Rattle.refusal.specs.Refusal.{number_of, value_of}
 use Rattle.refusal.specs.declared.Refusal.{Refusal}
 use Rattle.refusal.specs.declared.Refusal.TheVariants.{Room, State}
 use Rattle.refusal.proofs.Promises.{numbers}
-use Rattle.frame.specs.declared.Wrote.{Wrote}
-use Rattle.frame.specs.declared.Wrote.TheVariants as wrote
 use Rattle.demand2.proofs.Proved.{demand2}
 use Rattle.cutter.specs.Cutter.{ended, cut_of, answer_by, left_by_said, then_read}
 use Rattle.cutter.proofs.Promises.{promised as cuts}
 use Rattle.cut_reader.proofs.Promises.{promised as cut}
-use Rattle.recorder.specs.Recorder.{reading_of, told_as, take_by, take_of, send_of}
+use Rattle.recorder.specs.Recorder.{reading_of, take_by, take_of, has_made, is_opening, send_of}
 use Rattle.recorder.specs.declared.Recorder.{Recorder}
 use Rattle.recorder.proofs.Promises.{promised as recorded}
 use Rattle.layout.proofs.Promises.{promised as laid}
 use Rattle.hourheron.specs.Clauses.{HeronReadText, HeronReadPacked, HeronReadFixed, HeronRecorderSendValue, HeronRecorderTakeValue}
-use Rattle.hourheron.specs.Host.{answer_of, answer_to}
+use Rattle.hourheron.specs.Host.{answer_of}
 use Rattle.conclusions.specs.Stream.{answer_out, TakeCall, SendCall}
 use Rattle.hourheron.specs.Takes.{reading_by, lay_in, lay_left}
 use Rattle.hourheron.specs.declared.SendValue.{SendValue}
@@ -43,17 +42,17 @@ module _ (r : Recorder) (p out : List ℕ) where
       (λ k. rw (y, k) (makes_read demand2.text demand2.text_refuses laid.of_record cut.text c p checksum out)))
       (λ n. rw n (makes_read demand2.fixed demand2.fixed_refuses laid.of_fixed cut.fixed c p false out))
 
-  not_ended : 161 < r.cutter.len → (take_of r p).ended ≡ false
-  unfolding take_of take_by
+  not_ended : 161 < r.cutter.len → has_made (take_of r p).made ≡ false
+  unfolding take_of take_by has_made
   not_ended v = rw ((cuts.each_call.refused r.cutter p).1 v)
 
-  module _ (m : List ℕ) (q : (cut_of r.cutter p).said ≡ ended (accepted m)) where
-    opening_fixed : r.opened ≡ false → (take_of r p).made.opening ≡ true
-    unfolding take_of take_by reading_of told_as
+  module _ (m : List ℕ) (q : (cut_of r.cutter p).said ≡ ended (Ok m)) where
+    opening_fixed : r.opened ≡ false → is_opening (take_of r p).made ≡ true
+    unfolding take_of take_by reading_of is_opening
     opening_fixed o = rw (q, o)
 
-    opening_record : r.opened ≡ true → (take_of r p).made.opening ≡ false
-    unfolding take_of take_by reading_of told_as
+    opening_record : r.opened ≡ true → is_opening (take_of r p).made ≡ false
+    unfolding take_of take_by reading_of is_opening
     opening_record o = rw (q, o)
 
   module _ (v : TakeValue) (after : List ℕ) (call : HeronRecorderTakeValue r p out v after) where
@@ -61,7 +60,7 @@ module _ (r : Recorder) (p out : List ℕ) where
         (left_by_said (λ m d. lay_left (reading_by r m) d) (cut_of r.cutter p).said out) (answer_out v) after
     answer_out_lem = record { answers = ap answer_out call.answers; leaves = call.leaves }
 
-    module _ (m : List ℕ) (q : (cut_of r.cutter p).said ≡ ended (accepted m)) where
+    module _ (m : List ℕ) (q : (cut_of r.cutter p).said ≡ ended (Ok m)) where
       at_fixed : r.opened ≡ false → HeronReadFixed m false out (answer_out v) after
       unfolding answer_by left_by_said reading_of lay_in lay_left then_read
       at_fixed o = rw (q, o) at answer_out_lem
@@ -77,11 +76,11 @@ module _ (r : Recorder) (p out : List ℕ) where
     is_used : v.used ≡ (take_of r p).used
     is_used = ap (λ (x : TakeValue). x.used) call.answers
 
-    is_ended_lem : v.ended ≡ (take_of r p).ended
+    is_ended_lem : v.ended ≡ has_made (take_of r p).made
     is_ended_lem = ap (λ (x : TakeValue). x.ended) call.answers
 
-    is_opening : v.opening ≡ (take_of r p).made.opening
-    is_opening = ap (λ (x : TakeValue). x.opening) call.answers
+    is_opening_lem : v.opening ≡ is_opening (take_of r p).made
+    is_opening_lem = ap (λ (x : TakeValue). x.opening) call.answers
 
     is_recorder : v.recorder ≡ (take_of r p).recorder
     is_recorder = ap (λ (x : TakeValue). x.recorder) call.answers
@@ -90,47 +89,47 @@ module _ (r : Recorder) (p out : List ℕ) where
     takes = record {
       used = is_used;
       ends = is_ended_lem;
-      opening = is_opening;
+      opening = is_opening_lem;
       recorder = is_recorder;
       answer = of_piece _ _ r.cutter p out makes_take (answer_out v) after answer_out_lem;
       invalid_same = λ z.
           let s = recorded.each_call.take_same r p ((recorded.each_call.take_16 r p).1 z) in
           (is_used ∙ s.1, is_ended_lem ∙ not_ended z, is_recorder ∙ s.0);
-      fixed = λ m o q. (is_opening ∙ opening_fixed m q o, at_fixed m q o);
-      text = λ m o k q. (is_opening ∙ opening_record m q o, at_text m q o k);
-      packed = λ m o k q. (is_opening ∙ opening_record m q o, at_packed m q o k);
+      fixed = λ m o q. (is_opening_lem ∙ opening_fixed m q o, at_fixed m q o);
+      text = λ m o k q. (is_opening_lem ∙ opening_record m q o, at_text m q o k);
+      packed = λ m o k q. (is_opening_lem ∙ opening_record m q o, at_packed m q o k);
     }
 
 -- ---- what it has to send
 
 -- a number that a refusal has alone, a number with its value, and any but 0 tell what was written
-wrote_alone : (w : Wrote) (y : Refusal) → Alone y → (answer_to w).number ≡ number_of y → w ≡ wrote.Refused y
-wrote_alone (wrote.Count n) y alone e = absurd (numbers.not_zero y (sym e))
-wrote_alone (wrote.Refused x) y alone e = ap wrote.Refused (alone x e)
+wrote_alone : (w : Answer ℕ) (y : Refusal) → Alone y → (answer_of w).number ≡ number_of y → w ≡ Err y
+wrote_alone (Ok n) y alone e = absurd (numbers.not_zero y (sym e))
+wrote_alone (Err x) y alone e = ap Err (alone x e)
 
-wrote_with : (w : Wrote) (y : Refusal) → (answer_to w).number ≡ number_of y → (answer_to w).value ≡ value_of y → w ≡ wrote.Refused y
-wrote_with (wrote.Count n) y e f = absurd (numbers.not_zero y (sym e))
-wrote_with (wrote.Refused x) y e f = ap wrote.Refused (numbers.apart x y e f)
+wrote_with : (w : Answer ℕ) (y : Refusal) → (answer_of w).number ≡ number_of y → (answer_of w).value ≡ value_of y → w ≡ Err y
+wrote_with (Ok n) y e f = absurd (numbers.not_zero y (sym e))
+wrote_with (Err x) y e f = ap Err (numbers.apart x y e f)
 
-wrote_not : (w : Wrote) → ((answer_to w).number ≡ 0 → ⊥) → (x : Refusal) × (w ≡ wrote.Refused x)
-wrote_not (wrote.Count n) not = absurd (not refl)
-wrote_not (wrote.Refused x) not = (x, refl)
+wrote_not : (w : Answer ℕ) → ((answer_of w).number ≡ 0 → ⊥) → (x : Refusal) × (w ≡ Err x)
+wrote_not (Ok n) not = absurd (not refl)
+wrote_not (Err x) not = (x, refl)
 
 module _ (r : Recorder) (out : List ℕ) (v : SendValue) (after : List ℕ) (call : HeronRecorderSendValue r out v after) where
-  is_number : v.number ≡ (answer_to (send_of r out).wrote).number
+  is_number : v.number ≡ (answer_of (send_of r out).wrote).number
   is_number = ap (λ (x : SendValue). x.number) call.answers
 
-  is_value_lem : v.value ≡ (answer_to (send_of r out).wrote).value
+  is_value_lem : v.value ≡ (answer_of (send_of r out).wrote).value
   is_value_lem = ap (λ (x : SendValue). x.value) call.answers
 
   is_next : v.recorder ≡ (send_of r out).recorder
   is_next = ap (λ (x : SendValue). x.recorder) call.answers
 
-  number_of_lem : (w : Wrote) → (send_of r out).wrote ≡ w → v.number ≡ (answer_to w).number
-  number_of_lem w e = is_number ∙ ap (λ (x : Wrote). (answer_to x).number) e
+  number_of_lem : (w : Answer ℕ) → (send_of r out).wrote ≡ w → v.number ≡ (answer_of w).number
+  number_of_lem w e = is_number ∙ ap (λ (x : Answer ℕ). (answer_of x).number) e
 
-  value_of_lem : (w : Wrote) → (send_of r out).wrote ≡ w → v.value ≡ (answer_to w).value
-  value_of_lem w e = is_value_lem ∙ ap (λ (x : Wrote). (answer_to x).value) e
+  value_of_lem : (w : Answer ℕ) → (send_of r out).wrote ≡ w → v.value ≡ (answer_of w).value
+  value_of_lem w e = is_value_lem ∙ ap (λ (x : Answer ℕ). (answer_of x).value) e
 
   pub sends : SendCall r out v after
   sends =

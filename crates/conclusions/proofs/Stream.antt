@@ -6,9 +6,10 @@ use mathlib.Core.Logic.{◌⊎◌, inl, inr}
 use mathlib.Core.Path.{◌≡◌, refl, sym, ap, ◌∙◌}
 use lib.Dec.{eqb}
 use lib.ListN.{length, drop}
+use Rattle.std.specs.Prelude.{Err, Ok}
 use Rattle.laws.specs.Gives.{Gives}
 use Rattle.laws.proofs.Tests.{never}
-use Rattle.refusal.specs.Answer.{Answer, accepted, refused}
+use Rattle.refusal.specs.Answer.{Answer}
 use Rattle.refusal.specs.Refusal.{number_of, value_of}
 use Rattle.refusal.specs.declared.Refusal.{Refusal}
 use Rattle.refusal.specs.declared.Refusal.TheVariants.{Field, Room, Length, End, Checksum, Contents, Dropped, Setting, TooLong, Form, Lost, NoPort, State}
@@ -77,41 +78,41 @@ alone_16 x e = sym (by_own x) ∙ ap (λ (n : ℕ). by_number n x) e
 -- ---- what an entry makes of a message, for the rest to follow
 
 pub record Makes (make : Answer (List ℕ) → Answer ℕ) (put : Answer (List ℕ) → List ℕ → List ℕ) (c : Cutter) (p out : List ℕ) : Type 0 where
-  pub long : make (refused TooLong) ≡ refused TooLong
-  pub kept : (m : Answer (List ℕ)) (x : Refusal) → make m ≡ refused x → put m out ≡ out
-  pub not_16 : (m : List ℕ) → make (accepted m) ≡ refused State → ⊥
-  pub not_9 : (m : List ℕ) → make (accepted m) ≡ refused TooLong → ⊥
-  pub not_4 : (m : List ℕ) → length c.bytes ≡ cutter_length → (cut_of c p).said ≡ ended (accepted m) → make (accepted m) ≡ refused End → ⊥
+  pub long : make (Err TooLong) ≡ Err TooLong
+  pub kept : (m : Answer (List ℕ)) (x : Refusal) → make m ≡ Err x → put m out ≡ out
+  pub not_16 : (m : List ℕ) → make (Ok m) ≡ Err State → ⊥
+  pub not_9 : (m : List ℕ) → make (Ok m) ≡ Err TooLong → ⊥
+  pub not_4 : (m : List ℕ) → length c.bytes ≡ cutter_length → (cut_of c p).said ≡ ended (Ok m) → make (Ok m) ≡ Err End → ⊥
 
 module _ (make : Answer (List ℕ) → Answer ℕ) (put : Answer (List ℕ) → List ℕ → List ℕ) (c : Cutter) (p out : List ℕ) (h : Makes make put c p out) where
   -- of a message that is too long only 9 is made
-  long_only : (r x : Refusal) → (cut_of c p).said ≡ ended (refused r) → make (refused r) ≡ refused x → x ≡ TooLong
+  long_only : (r x : Refusal) → (cut_of c p).said ≡ ended (Err r) → make (Err r) ≡ Err x → x ≡ TooLong
   long_only r x q e =
-      let f : refused x ≡ refused TooLong = sym e ∙ ap (λ (y : Refusal). make (refused y)) (only_9 c p r q) ∙ h.long in
+      let f : Err x ≡ Err TooLong = sym e ∙ ap (λ (y : Refusal). make (Err y)) (only_9 c p r q) ∙ h.long in
       cc
 
-  said_16 : (s : Said) → (cut_of c p).said ≡ s → answer_by make s ≡ refused State → 161 < c.len
+  said_16 : (s : Said) → (cut_of c p).said ≡ s → answer_by make s ≡ Err State → 161 < c.len
   unfolding answer_by
   said_16 invalid q e = (cuts.each_call.refused c p).0 q
   said_16 nothing q e = never (cc)
-  said_16 (ended (accepted m)) q e = absurd (h.not_16 m e)
-  said_16 (ended (refused r)) q e = let k = long_only r State q e in never (cc)
+  said_16 (ended (Ok m)) q e = absurd (h.not_16 m e)
+  said_16 (ended (Err r)) q e = let k = long_only r State q e in never (cc)
 
-  said_9 : (s : Said) → (cut_of c p).said ≡ s → answer_by make s ≡ refused TooLong → (cut_of c p).said ≡ ended (refused TooLong)
+  said_9 : (s : Said) → (cut_of c p).said ≡ s → answer_by make s ≡ Err TooLong → (cut_of c p).said ≡ ended (Err TooLong)
   unfolding answer_by
   said_9 invalid q e = never (cc)
   said_9 nothing q e = never (cc)
-  said_9 (ended (accepted m)) q e = absurd (h.not_9 m e)
-  said_9 (ended (refused r)) q e = q ∙ ap (λ (x : Refusal). ended (refused x)) (only_9 c p r q)
+  said_9 (ended (Ok m)) q e = absurd (h.not_9 m e)
+  said_9 (ended (Err r)) q e = q ∙ ap (λ (x : Refusal). ended (Err x)) (only_9 c p r q)
 
-  said_4 : (s : Said) → length c.bytes ≡ cutter_length → (cut_of c p).said ≡ s → answer_by make s ≡ refused End → ⊥
+  said_4 : (s : Said) → length c.bytes ≡ cutter_length → (cut_of c p).said ≡ s → answer_by make s ≡ Err End → ⊥
   unfolding answer_by
   said_4 invalid l q e = never (cc)
   said_4 nothing l q e = never (cc)
-  said_4 (ended (accepted m)) l q e = h.not_4 m l q e
-  said_4 (ended (refused r)) l q e = let k = long_only r End q e in never (cc)
+  said_4 (ended (Ok m)) l q e = h.not_4 m l q e
+  said_4 (ended (Err r)) l q e = let k = long_only r End q e in never (cc)
 
-  left_refused : (s : Said) (x : Refusal) → answer_by make s ≡ refused x → left_by_said put s out ≡ out
+  left_refused : (s : Said) (x : Refusal) → answer_by make s ≡ Err x → left_by_said put s out ≡ out
   unfolding answer_by left_by_said
   left_refused invalid x e = refl
   left_refused nothing x e = refl
@@ -128,26 +129,26 @@ module _ (make : Answer (List ℕ) → Answer ℕ) (put : Answer (List ℕ) → 
     abbrev made : Answer ℕ
     made = answer_by make (cut_of c p).said
 
-    is_number : (x : Refusal) → made ≡ refused x → a.number ≡ number_of x
+    is_number : (x : Refusal) → made ≡ Err x → a.number ≡ number_of x
     is_number x e = ap (λ (b : host.Answer). b.number) (call.answers ∙ ap answer_of e)
 
-    is_value_lem : (x : Refusal) → made ≡ refused x → a.value ≡ value_of x
+    is_value_lem : (x : Refusal) → made ≡ Err x → a.value ≡ value_of x
     is_value_lem x e = ap (λ (b : host.Answer). b.value) (call.answers ∙ ap answer_of e)
 
-    only : (y : Refusal) → Alone y → a.number ≡ number_of y → made ≡ refused y
+    only : (y : Refusal) → Alone y → a.number ≡ number_of y → made ≡ Err y
     only y alone e =
         let w = was_refused answers a made call.answers (λ z. numbers.not_zero y (sym e ∙ z)) in
-        w.1 ∙ ap refused (alone w.0 (sym (is_number w.0 w.1) ∙ e))
+        w.1 ∙ ap Err (alone w.0 (sym (is_number w.0 w.1) ∙ e))
 
-    made_16 : 161 < c.len → made ≡ refused State
+    made_16 : 161 < c.len → made ≡ Err State
     unfolding answer_by
     made_16 v = ap (answer_by make) ((cuts.each_call.refused c p).1 v)
 
-    made_9 : (cut_of c p).said ≡ ended (refused TooLong) → made ≡ refused TooLong
+    made_9 : (cut_of c p).said ≡ ended (Err TooLong) → made ≡ Err TooLong
     unfolding answer_by
     made_9 q = ap (answer_by make) q ∙ h.long
 
-    made_0 : (cut_of c p).said ≡ nothing → made ≡ accepted 0
+    made_0 : (cut_of c p).said ≡ nothing → made ≡ Ok 0
     unfolding answer_by
     made_0 q = ap (answer_by make) q
 
@@ -217,17 +218,17 @@ module _ {A : Type 0} {form : Codec A} {rule : A → ℕ} {low : ℕ → Refusal
   abbrev read : Answer (List ℕ) → Answer A
   read m = then_read (read_of form checksum) m
 
-  sendable : (m : Answer (List ℕ)) (a : A) → read m ≡ accepted a → rule a ≡ 0
+  sendable : (m : Answer (List ℕ)) (a : A) → read m ≡ Ok a → rule a ≡ 0
   unfolding then_read
-  sendable (accepted m) a e = ((faithful.exactly checksum m a).0 e).0
-  sendable (refused r) a e = never (cc)
+  sendable (Ok m) a e = ((faithful.exactly checksum m a).0 e).0
+  sendable (Err r) a e = never (cc)
 
   -- a number that no reader gives, nor 2
-  not_made : (m : List ℕ) (x : Refusal) → (x ≡ Room width → ⊥) → (read_of form checksum m ≡ refused x → ⊥) →
-      then_write width (read (accepted m)) out ≡ refused x → ⊥
+  not_made : (m : List ℕ) (x : Refusal) → (x ≡ Room width → ⊥) → (read_of form checksum m ≡ Err x → ⊥) →
+      then_write width (read (Ok m)) out ≡ Err x → ⊥
   unfolding then_read
   not_made m x room none e = by (then_refused width (read_of form checksum m) out x e) where
-    by : (read_of form checksum m ≡ refused x) ⊎ ((x ≡ Room width) × (length out < width) × ((a : A) × (read_of form checksum m ≡ accepted a))) → ⊥
+    by : (read_of form checksum m ≡ Err x) ⊎ ((x ≡ Room width) × (length out < width) × ((a : A) × (read_of form checksum m ≡ Ok a))) → ⊥
     by (inl q) = none q
     by (inr q) = room q.0
 
@@ -238,11 +239,11 @@ module _ {A : Type 0} {form : Codec A} {rule : A → ℕ} {low : ℕ → Refusal
     kept = λ m x e. then_same bytes width out (read m) x (λ a q. lies.long a (sendable m a q)) e;
     not_16 = λ m e. not_made m State (λ k. never (cc)) (λ q. (exact.read_when checksum m State).0 q) e;
     not_9 = λ m e. not_made m TooLong (λ k. never (cc)) (λ q. (exact.read_when checksum m TooLong).0 q) e;
-    not_4 = λ m l s e. not_made m End (λ k. never (cc)) (λ q. cut.never_4 checksum c p (accepted m) l s q) e;
+    not_4 = λ m l s e. not_made m End (λ k. never (cc)) (λ q. cut.never_4 checksum c p (Ok m) l s q) e;
   }
 
   -- the answer to a message that ended is that of the reader's own entry
-  pub at_end : (a : host.Answer) (after m : List ℕ) → (cut_of c p).said ≡ ended (accepted m) →
+  pub at_end : (a : host.Answer) (after m : List ℕ) → (cut_of c p).said ≡ ended (Ok m) →
       Gives (answer_of (answer_by (λ x. then_write width (read x) out) (cut_of c p).said))
       (left_by_said (λ x d. then_left bytes (read x) d) (cut_of c p).said out) a after →
       Gives (answer_of (then_write width (read_of form checksum m) out)) (then_left bytes (read_of form checksum m) out) a after
@@ -259,17 +260,17 @@ module _ {A : Type 0} {form : Codec A} {rule : A → ℕ} {low : ℕ → Refusal
 -- ---- the message itself
 
 module _ (c : Cutter) (p out : List ℕ) where
-  kept_whole : (m : Answer (List ℕ)) (x : Refusal) → whole_in out m ≡ refused x → whole_left m out ≡ out
+  kept_whole : (m : Answer (List ℕ)) (x : Refusal) → whole_in out m ≡ Err x → whole_left m out ≡ out
   unfolding whole_in then_read then_left then_write
-  kept_whole (accepted m) x e = then_same (λ (s : List ℕ). s) (length m) out (accepted m) x (λ s q. let k : m ≡ s = cc in ap length (sym k)) e
-  kept_whole (refused r) x e = refl
+  kept_whole (Ok m) x e = then_same (λ (s : List ℕ). s) (length m) out (Ok m) x (λ s q. let k : m ≡ s = cc in ap length (sym k)) e
+  kept_whole (Err r) x e = refl
 
   -- 2 is all that refuses a message that ended and fits
-  whole_refused : (m : List ℕ) (x : Refusal) → (x ≡ Room (length m) → ⊥) → whole_in out (accepted m) ≡ refused x → ⊥
+  whole_refused : (m : List ℕ) (x : Refusal) → (x ≡ Room (length m) → ⊥) → whole_in out (Ok m) ≡ Err x → ⊥
   unfolding whole_in then_read then_write
-  whole_refused m x not e = by (then_refused {A = List ℕ} (length m) (accepted m) out x e) where
-    by : (◌≡◌ {A = Answer (List ℕ)} (accepted m) (refused x)) ⊎
-        ((x ≡ Room (length m)) × (length out < length m) × ((a : List ℕ) × (accepted m ≡ accepted a))) → ⊥
+  whole_refused m x not e = by (then_refused {A = List ℕ} (length m) (Ok m) out x e) where
+    by : (◌≡◌ {A = Answer (List ℕ)} (Ok m) (Err x)) ⊎
+        ((x ≡ Room (length m)) × (length out < length m) × ((a : List ℕ) × (◌≡◌ {A = Answer (List ℕ)} (Ok m) (Ok a)))) → ⊥
     by (inl q) = never (cc)
     by (inr q) = not q.0
 
@@ -283,15 +284,15 @@ module _ (c : Cutter) (p out : List ℕ) where
     not_4 = λ m l s e. whole_refused m End (λ k. never (cc)) e;
   }
 
-  module _ (r : CutValue) (after : List ℕ) (call : Cuts (whole_in out) whole_left c p out r after) (m : List ℕ) (q : (cut_of c p).said ≡ ended (accepted m)) where
-    handed : Gives (answer_of (then_write (length m) (accepted m) out)) (whole_left (accepted m) out) (answer_in r) after
+  module _ (r : CutValue) (after : List ℕ) (call : Cuts (whole_in out) whole_left c p out r after) (m : List ℕ) (q : (cut_of c p).said ≡ ended (Ok m)) where
+    handed : Gives (answer_of (then_write (length m) (Ok m) out)) (whole_left (Ok m) out) (answer_in r) after
     unfolding answer_by left_by_said whole_in then_read then_write
     handed = rw q at (answer_in_lem _ _ c p out makes_whole r after call)
 
     whole : length m ≤ length out → (r.number ≡ 0) × (r.value ≡ length m) × (after ≡ m ++ drop (length m) out)
     unfolding then_write
     whole h =
-        let w : then_write (length m) (accepted m) out ≡ accepted (length m) = room_enough (length m) (length out) h in
+        let w : then_write (length m) (Ok m) out ≡ Ok (length m) = room_enough (length m) (length out) h in
         let is = handed.answers ∙ ap answer_of w in (
           ap (λ (b : host.Answer). b.number) is,
           ap (λ (b : host.Answer). b.value) is,
@@ -301,11 +302,11 @@ module _ (c : Cutter) (p out : List ℕ) where
     no_room : length out < length m → (r.number ≡ 2) × (r.value ≡ length m) × (after ≡ out)
     unfolding then_write
     no_room h =
-        let w : then_write (length m) (accepted m) out ≡ refused (Room (length m)) = room_short (length m) (length out) h in
+        let w : then_write (length m) (Ok m) out ≡ Err (Room (length m)) = room_short (length m) (length out) h in
         let is = handed.answers ∙ ap answer_of w in (
           ap (λ (b : host.Answer). b.number) is,
           ap (λ (b : host.Answer). b.value) is,
-          handed.leaves ∙ then_same (λ (s : List ℕ). s) (length m) out (accepted m) (Room (length m)) (λ s k. let y : m ≡ s = cc in ap length (sym y)) w,
+          handed.leaves ∙ then_same (λ (s : List ℕ). s) (length m) out (Ok m) (Room (length m)) (λ s k. let y : m ≡ s = cc in ap length (sym y)) w,
         )
 
   pub hands_message : (r : CutValue) (after : List ℕ) → Cuts (whole_in out) whole_left c p out r after → HandsMessage c p out r after

@@ -2,7 +2,8 @@
 use Prim.Native.Nat.{ℕ}
 use mathlib.Core.Logic.{◌↔◌}
 use mathlib.Core.Path.{◌≡◌, refl, sym, ap, ◌∙◌}
-use Rattle.refusal.specs.Answer.{Answer, accepted, refused}
+use Rattle.std.specs.Prelude.{Err, Ok}
+use Rattle.refusal.specs.Answer.{Answer}
 use Rattle.refusal.specs.Refusal.{number_of, value_of}
 use Rattle.refusal.specs.declared.Refusal.{Refusal}
 use Rattle.refusal.proofs.Promises.{numbers}
@@ -11,10 +12,10 @@ use Rattle.conclusions.specs.Promises.{TellsApart}
 
 -- handed over are 0 and what was done, or a refusal's number and value
 pub record Hands {A R : Type 0} (handed : Answer A → R) (number beside : R → ℕ) (value : R → A) : Type 0 where
-  pub zero : (y : A) → number (handed (accepted y)) ≡ 0
-  pub given : (y : A) → value (handed (accepted y)) ≡ y
-  pub numbered : (x : Refusal) → number (handed (refused x)) ≡ number_of x
-  pub valued : (x : Refusal) → beside (handed (refused x)) ≡ value_of x
+  pub zero : (y : A) → number (handed (Ok y)) ≡ 0
+  pub given : (y : A) → value (handed (Ok y)) ≡ y
+  pub numbered : (x : Refusal) → number (handed (Err x)) ≡ number_of x
+  pub valued : (x : Refusal) → beside (handed (Err x)) ≡ value_of x
 
 pub answers : Hands answer_of (λ r. r.number) (λ r. r.value) (λ r. r.value)
 answers = record { zero = λ n. refl; given = λ n. refl; numbered = λ x. refl; valued = λ x. refl }
@@ -26,30 +27,30 @@ module _ {A R : Type 0} {handed : Answer A → R} {number beside : R → ℕ} {v
   -- ---- a call whose answer is a
 
   module _ (r : R) where
-    pub was_done : (a : Answer A) → r ≡ handed a → number r ≡ 0 → (y : A) × (a ≡ accepted y)
-    was_done (accepted y) call z = (y, refl)
-    was_done (refused x) call z = absurd (numbers.not_zero x (sym (h.numbered x) ∙ ap number (sym call) ∙ z))
+    pub was_done : (a : Answer A) → r ≡ handed a → number r ≡ 0 → (y : A) × (a ≡ Ok y)
+    was_done (Ok y) call z = (y, refl)
+    was_done (Err x) call z = absurd (numbers.not_zero x (sym (h.numbered x) ∙ ap number (sym call) ∙ z))
 
-    pub was_refused : (a : Answer A) → r ≡ handed a → (number r ≡ 0 → ⊥) → (x : Refusal) × (a ≡ refused x)
-    was_refused (accepted y) call n = absurd (n (ap number call ∙ h.zero y))
-    was_refused (refused x) call n = (x, refl)
+    pub was_refused : (a : Answer A) → r ≡ handed a → (number r ≡ 0 → ⊥) → (x : Refusal) × (a ≡ Err x)
+    was_refused (Ok y) call n = absurd (n (ap number call ∙ h.zero y))
+    was_refused (Err x) call n = (x, refl)
 
-    pub no_refusal : (a : Answer A) → r ≡ handed a → ((x : Refusal) → a ≡ refused x → ⊥) → number r ≡ 0
-    no_refusal (accepted y) call n = ap number call ∙ h.zero y
-    no_refusal (refused x) call n = absurd (n x refl)
+    pub no_refusal : (a : Answer A) → r ≡ handed a → ((x : Refusal) → a ≡ Err x → ⊥) → number r ≡ 0
+    no_refusal (Ok y) call n = ap number call ∙ h.zero y
+    no_refusal (Err x) call n = absurd (n x refl)
 
-    pub done_with : (a : Answer A) → r ≡ handed a → (y : A) → ((number r ≡ 0) × (value r ≡ y)) ↔ (a ≡ accepted y)
+    pub done_with : (a : Answer A) → r ≡ handed a → (y : A) → ((number r ≡ 0) × (value r ≡ y)) ↔ (a ≡ Ok y)
     done_with a call y = (
-      λ p. let w = was_done a call p.0 in w.1 ∙ ap accepted (sym (h.given w.0) ∙ ap value (sym (call ∙ ap handed w.1)) ∙ p.1),
+      λ p. let w = was_done a call p.0 in w.1 ∙ ap Ok (sym (h.given w.0) ∙ ap value (sym (call ∙ ap handed w.1)) ∙ p.1),
       λ e. let is = call ∙ ap handed e in (ap number is ∙ h.zero y, ap value is ∙ h.given y),
     )
 
-    refused_is : (a : Answer A) → r ≡ handed a → (x : Refusal) → number r ≡ number_of x → beside r ≡ value_of x → a ≡ refused x
-    refused_is (accepted y) call x n v = absurd (numbers.not_zero x (sym n ∙ ap number call ∙ h.zero y))
-    refused_is (refused y) call x n v =
-        ap refused (numbers.apart y x (sym (h.numbered y) ∙ ap number (sym call) ∙ n) (sym (h.valued y) ∙ ap beside (sym call) ∙ v))
+    refused_is : (a : Answer A) → r ≡ handed a → (x : Refusal) → number r ≡ number_of x → beside r ≡ value_of x → a ≡ Err x
+    refused_is (Ok y) call x n v = absurd (numbers.not_zero x (sym n ∙ ap number call ∙ h.zero y))
+    refused_is (Err y) call x n v =
+        ap Err (numbers.apart y x (sym (h.numbered y) ∙ ap number (sym call) ∙ n) (sym (h.valued y) ∙ ap beside (sym call) ∙ v))
 
-    pub refused_with : (a : Answer A) → r ≡ handed a → (x : Refusal) → ((number r ≡ number_of x) × (beside r ≡ value_of x)) ↔ (a ≡ refused x)
+    pub refused_with : (a : Answer A) → r ≡ handed a → (x : Refusal) → ((number r ≡ number_of x) × (beside r ≡ value_of x)) ↔ (a ≡ Err x)
     refused_with a call x = (
       λ p. refused_is a call x p.0 p.1,
       λ e. let is = call ∙ ap handed e in (ap number is ∙ h.numbered x, ap beside is ∙ h.valued x),
@@ -57,12 +58,12 @@ module _ {A R : Type 0} {handed : Answer A → R} {number beside : R → ℕ} {v
 
   -- ---- hence of any answer
 
-  tells_done : (a : Answer A) → (number (handed a) ≡ 0) ↔ ((y : A) × (a ≡ accepted y))
+  tells_done : (a : Answer A) → (number (handed a) ≡ 0) ↔ ((y : A) × (a ≡ Ok y))
   tells_done a = (was_done (handed a) a refl, λ p. ((done_with (handed a) a refl p.0).1 p.1).0)
 
   tells_apart : (a b : Answer A) → handed a ≡ handed b → a ≡ b
-  tells_apart a (accepted y) e = (done_with (handed a) a refl y).0 (ap number e ∙ h.zero y, ap value e ∙ h.given y)
-  tells_apart a (refused x) e = (refused_with (handed a) a refl x).0 (ap number e ∙ h.numbered x, ap beside e ∙ h.valued x)
+  tells_apart a (Ok y) e = (done_with (handed a) a refl y).0 (ap number e ∙ h.zero y, ap value e ∙ h.given y)
+  tells_apart a (Err x) e = (refused_with (handed a) a refl x).0 (ap number e ∙ h.numbered x, ap beside e ∙ h.valued x)
 
   pub tells : TellsApart handed number
   tells = record { done = tells_done; apart = tells_apart }

@@ -1,8 +1,8 @@
 -- What a C host may conclude from a call of each entry: of the relations that the entries' contracts name (Contracts.antt of crate hourheron). Statements only:
 -- proofs/Promises.antt proves each. `rule` is 0 where contents are sendable; `low`, `plain` and `places` are as in demand 2.
-use Rattle.std.specs.Prelude.{ℕ, ◌+◌, ◌*◌, ◌≤◌, ◌<◌, Bool, List, ◌++◌, ◌↔◌, ◌⊎◌, ◌≡◌, ℤ, pos, length, drop}
+use Rattle.std.specs.Prelude.{ℕ, ◌+◌, ◌*◌, ◌≤◌, ◌<◌, Bool, List, ◌++◌, ◌↔◌, ◌⊎◌, ◌≡◌, ℤ, pos, length, drop, Err, Ok}
 use Rattle.laws.specs.Member.{◌∈◌}
-use Rattle.refusal.specs.Answer.{Answer, accepted, refused}
+use Rattle.refusal.specs.Answer.{Answer}
 use Rattle.refusal.specs.Refusal.{number_of, value_of}
 use Rattle.refusal.specs.declared.Refusal.{Refusal}
 use Rattle.refusal.specs.declared.Refusal.TheVariants.{Field, Room, Setting}
@@ -45,7 +45,7 @@ use Rattle.hourheron.specs.declared.TakeValue.{TakeValue}
 
 -- how an answer is handed over tells it: the number is 0 exactly where it is done, and no two answers are handed over alike
 pub record TellsApart {A R : Type 0} (handed : Answer A → R) (number : R → ℕ) : Type 0 where
-  pub done : (a : Answer A) → (number (handed a) ≡ 0) ↔ ((x : A) × (a ≡ accepted x))
+  pub done : (a : Answer A) → (number (handed a) ≡ 0) ↔ ((x : A) × (a ≡ Ok x))
   pub apart : (a b : Answer A) → handed a ≡ handed b → a ≡ b
 
 -- done, with n
@@ -110,18 +110,20 @@ fields_to Write a =
 -- the items of fixed data, handed in one by one
 abbrev pub items_to : (List ℕ → List ℕ → ℕ → ℕ → ℕ → ℕ → ℕ → List ℕ → Bool → List ℕ → host.Answer → List ℕ → Type 0) →
     Fixed → Bool → List ℕ → host.Answer → List ℕ → Type 0
-items_to Write a = Write a.serial a.owner a.kind a.focal a.maximum a.letter a.transmission a.version
+items_to Write a =
+    let l = a.lens in
+    Write a.serial a.owner l.kind l.focal l.maximum l.letter l.transmission a.version
 
 -- ---- old lines, and packed records as text
 
 -- what one call that makes another line of a message says: line is the one of n bytes that it makes, or why it makes none
 pub record Moved (n : ℕ) (line : Answer (List ℕ)) (out : List ℕ) (r : host.Answer) (after : List ℕ) : Type 0 where
   -- 0 with n, exactly where there is a line and room for it
-  pub done : (k : ℕ) → DoneWith k r ↔ ((l : List ℕ) × (line ≡ accepted l) × (n ≤ length out) × (k ≡ n))
+  pub done : (k : ℕ) → DoneWith k r ↔ ((l : List ℕ) × (line ≡ Ok l) × (n ≤ length out) × (k ≡ n))
   -- then it stands at the start, and the bytes past it are unchanged
-  pub lays : (l : List ℕ) → line ≡ accepted l → r.number ≡ 0 → after ≡ l ++ drop n out
+  pub lays : (l : List ℕ) → line ≡ Ok l → r.number ≡ 0 → after ≡ l ++ drop n out
   -- refused as the line is, then 2
-  pub refuses : (x : Refusal) → IsRefused x r ↔ ((line ≡ refused x) ⊎ ((x ≡ Room n) × (length out < n) × ((l : List ℕ) × (line ≡ accepted l))))
+  pub refuses : (x : Refusal) → IsRefused x r ↔ ((line ≡ Err x) ⊎ ((x ≡ Room n) × (length out < n) × ((l : List ℕ) × (line ≡ Ok l))))
   pub refused_same : (r.number ≡ 0 → ⊥) → after ≡ out
 
 -- ---- the other entries
@@ -139,7 +141,7 @@ pub record Converted (field : ℕ) (z : ℤ) (unit wanted : ℕ) (r : Conversion
 -- what one question about the owner's part says: done exactly for a message of the N writer, with what is asked of its contents; else refused as it is
 pub record Asked (part : Answer Fixed → ℕ) (m : List ℕ) (checksum : Bool) (r : host.Answer) : Type 0 where
   pub done : (n : ℕ) → DoneWith n r ↔
-      ((f : Fixed) × (fixed_lowest f ≡ 0) × (m ≡ message_of fixed_form checksum f) × (n ≡ part (accepted f)))
+      ((f : Fixed) × (fixed_lowest f ≡ 0) × (m ≡ message_of fixed_form checksum f) × (n ≡ part (Ok f)))
   pub refuses : (x : Refusal) → IsRefused x r ↔ ReadWhen fixed_lowest (spellings fixed_form) fixed_places 67 checksum m x
 
 -- ---- all entries

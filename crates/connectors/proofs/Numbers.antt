@@ -4,23 +4,22 @@ use mathlib.Core.Logic.{◌↔◌}
 use mathlib.Core.Path.{◌≡◌, refl, sym, ap, subst, ◌∙◌}
 use borrow.Author.Tests.{eqb-true, eqb-false, ne_eqb}
 use lib.Dec.{eqb}
+use Rattle.std.specs.Prelude.{Option, None, Some}
 use Rattle.laws.proofs.Tests.{cond_no, told, never}
 use Rattle.connectors.specs.declared.Side.{Side}
 use Rattle.connectors.specs.declared.Side.TheVariants.{Camera, External}
-use Rattle.connectors.specs.declared.Named as name
-use Rattle.connectors.specs.declared.Named.TheVariants.{At, Nowhere}
 use Rattle.connectors.specs.Connectors.{side_of}
 use Rattle.connectors.specs.Promises.{Unknown, Named}
 
-side_0 : {n : ℕ} → n ≡ 0 → side_of n ≡ At Camera
+side_0 : {n : ℕ} → n ≡ 0 → side_of n ≡ Some Camera
 unfolding side_of
 side_0 e = ap side_of e
 
-side_1 : {n : ℕ} → n ≡ 1 → side_of n ≡ At External
+side_1 : {n : ℕ} → n ≡ 1 → side_of n ≡ Some External
 unfolding side_of
 side_1 e = ap side_of e
 
-side_none : {n : ℕ} → Unknown n → side_of n ≡ Nowhere
+side_none : {n : ℕ} → Unknown n → side_of n ≡ None
 unfolding side_of
 side_none {n} u = cond_no _ _ (ne_eqb n 0 u.0) ∙ cond_no _ _ (ne_eqb n 1 u.1)
 
@@ -31,29 +30,29 @@ which n f g h =
 
 pub named : Named
 named = record {
-  camera = λ n. (λ e. which n (λ z. z) (λ z. let f = side_1 z in never (cc)) (λ u. let f = side_none u in never (cc)), side_0);
-  external = λ n. (λ e. which n (λ z. let f = side_0 z in never (cc)) (λ z. z) (λ u. let f = side_none u in never (cc)), side_1);
-  nowhere = λ n. (λ e. which n (λ z. let f = side_0 z in never (cc)) (λ z. let f = side_1 z in never (cc)) (λ u. u), side_none);
+  camera = λ n. (λ e. which n (λ z. z) (λ z. let f = side_1 z in never cc) (λ u. let f = side_none u in never cc), side_0);
+  external = λ n. (λ e. which n (λ z. let f = side_0 z in never cc) (λ z. z) (λ u. let f = side_none u in never cc), side_1);
+  nowhere = λ n. (λ e. which n (λ z. let f = side_0 z in never cc) (λ z. let f = side_1 z in never cc) (λ u. u), side_none);
 }
 
-module _ (P : name.Named → Type 0) where
+module _ (P : Option Side → Type 0) where
   -- of a port that a number names
-  pub at_side : {m : name.Named} {a : Side} → m ≡ At a → P (At a) → P m
+  pub at_side : {m : Option Side} {a : Side} → m ≡ Some a → P (Some a) → P m
   at_side e p = subst P (sym e) p
 
   -- of each port, and where there is none
-  pub each : ((a : Side) → P (At a)) → P Nowhere → (m : name.Named) → P m
-  each f g (At a) = f a
-  each f g Nowhere = g
+  pub each : ((a : Side) → P (Some a)) → P None → (m : Option Side) → P m
+  each f g (Some a) = f a
+  each f g None = g
 
   -- of an unknown number
-  pub unknown : P Nowhere → (n : ℕ) → Unknown n → P (side_of n)
+  pub unknown : P None → (n : ℕ) → Unknown n → P (side_of n)
   unknown p n u = subst P (sym (side_none u)) p
 
   -- of no port, so of the unknown numbers alone
-  pub unknown_only : ((a : Side) → P (At a) → ⊥) → P Nowhere → (n : ℕ) → P (side_of n) ↔ Unknown n
+  pub unknown_only : ((a : Side) → P (Some a) → ⊥) → P None → (n : ℕ) → P (side_of n) ↔ Unknown n
   unknown_only f p n = (λ q. (named.nowhere n).0 (nowhere (side_of n) q), unknown p n)
     where
-      nowhere : (m : name.Named) → P m → m ≡ Nowhere
-      nowhere (At a) q = absurd (f a q)
-      nowhere Nowhere q = refl
+      nowhere : (m : Option Side) → P m → m ≡ None
+      nowhere (Some a) q = absurd (f a q)
+      nowhere None q = refl

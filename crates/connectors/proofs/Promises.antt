@@ -5,11 +5,11 @@ use mathlib.Core.Logic.{◌↔◌, inl, ⊎_elim, ◌≢◌}
 use mathlib.Core.Path.{◌≡◌, refl, sym, ap, subst}
 use lib.Dec.{eqb}
 use lib.ListN.{length}
+use Rattle.std.specs.Prelude.{Option, Ok, Err}
 use Rattle.laws.proofs.Tests.{told, by, never}
+use Rattle.refusal.specs.Answer.{Verdict}
 use Rattle.refusal.specs.declared.Refusal.{Refusal}
 use Rattle.refusal.specs.declared.Refusal.TheVariants as refusal
-use Rattle.refusal.specs.declared.Verdict.{Verdict}
-use Rattle.refusal.specs.declared.Verdict.TheVariants.{Done, Refused}
 use Rattle.fixed.specs.Fixed.{settings_lowest}
 use Rattle.fixed.specs.declared.Settings.{Settings}
 use Rattle.units.specs.Units.{is_unit}
@@ -18,7 +18,6 @@ use Rattle.units.specs.declared.Measurement.{Measurement}
 use Rattle.line.specs.declared.Line.{Line}
 use Rattle.line.specs.Line.{blank, valid_line}
 use Rattle.port.specs.declared.Port.{Port}
-use Rattle.port.specs.declared.Sent.TheVariants as sent
 use Rattle.port.specs.Port.{valid_port, slot_of, receive_of, measure_of, unstarted}
 use Rattle.port.proofs.Promises as port
 use Rattle.port.proofs.Cases.{by_case}
@@ -27,7 +26,6 @@ use Rattle.fill.specs.Fill.{fill_of}
 use Rattle.fill.proofs.Promises as fill
 use Rattle.connectors.specs.declared.Side.{Side}
 use Rattle.connectors.specs.declared.Side.TheVariants.{Camera, External}
-use Rattle.connectors.specs.declared.Named as name
 use Rattle.connectors.specs.declared.Connector.{Connector}
 use Rattle.connectors.specs.declared.Connectors.{Connectors}
 use Rattle.connectors.specs.Connectors.{side_of, port_with, port_at, with_port, unstarted_both, receive_in, slot_in, measure_in, fill_in, fill_leaves_in}
@@ -38,28 +36,28 @@ use Rattle.connectors.proofs.Restart.{restart, started_valid}
 -- ---- 12 and 16, which no port gives for anything else
 
 -- a measurement is refused with 1 only
-only_fields : (m : Measurement) (r : Refusal) → ((i : ℕ) → r ≢ refusal.Field i) → measurement_verdict m ≢ Refused r
+only_fields : (m : Measurement) (r : Refusal) → ((i : ℕ) → r ≢ refusal.Field i) → measurement_verdict m ≢ Err r
 unfolding measurement_verdict
 only_fields m r f =
-    let P : Verdict → Type 0 = λ v. v ≢ Refused r in
-    let wrong : (i : ℕ) → P (Refused (refusal.Field i)) = λ i e. f i (cc) in
+    let P : Verdict → Type 0 = λ v. v ≢ Err r in
+    let wrong : (i : ℕ) → P (Err (refusal.Field i)) = λ i e. f i (cc) in
     by P (is_unit m.unit) _ _ (λ y. by P (eqb (measurement_lowest m) 0) _ _ (λ z e. never (cc)) (λ z. wrong (measurement_lowest m))) (λ n. wrong 0)
 
 module _ (p : Port) where
-  receive_not_12 : (l : Line) (x : ℕ) → (receive_of p l x).verdict ≢ Refused refusal.NoPort
+  receive_not_12 : (l : Line) (x : ℕ) → (receive_of p l x).verdict ≢ Err refusal.NoPort
   receive_not_12 l x e = ⊎_elim (λ h. let z = h.1 in never (cc)) (λ h. let z = h.3 in never (cc)) ((by_case.receive p l x refusal.NoPort).0 e)
 
-  measure_not_12 : (m : Measurement) → (measure_of p m).verdict ≢ Refused refusal.NoPort
+  measure_not_12 : (m : Measurement) → (measure_of p m).verdict ≢ Err refusal.NoPort
   measure_not_12 m e =
       ⊎_elim (λ h. let z = h.1 in never (cc)) (λ h. only_fields m refusal.NoPort (λ i z. never (cc)) h.1) ((by_case.measure p m refusal.NoPort).0 e)
 
-  receive_16 : (l : Line) (x : ℕ) → ((receive_of p l x).verdict ≡ Refused refusal.State) ↔ (valid_port p && valid_line l ≡ false)
+  receive_16 : (l : Line) (x : ℕ) → ((receive_of p l x).verdict ≡ Err refusal.State) ↔ (valid_port p && valid_line l ≡ false)
   receive_16 l x = (
     λ e. ⊎_elim (λ h. h.0) (λ h. let z = h.3 in never (cc)) ((by_case.receive p l x refusal.State).0 e),
     λ f. (by_case.receive p l x refusal.State).1 (inl (f, refl)),
   )
 
-  measure_16 : (m : Measurement) → ((measure_of p m).verdict ≡ Refused refusal.State) ↔ (valid_port p ≡ false)
+  measure_16 : (m : Measurement) → ((measure_of p m).verdict ≡ Err refusal.State) ↔ (valid_port p ≡ false)
   measure_16 m = (
     λ e. ⊎_elim (λ h. h.0) (λ h. absurd (only_fields m refusal.State (λ i z. never (cc)) h.1)) ((by_case.measure p m refusal.State).0 e),
     λ f. (by_case.measure p m refusal.State).1 (inl (f, refl)),
@@ -68,39 +66,39 @@ module _ (p : Port) where
 pub no_such_port : NoSuchPort
 unfolding receive_in slot_in measure_in fill_in
 no_such_port = record {
-  receive = λ b n l x. unknown_only (λ (m : name.Named). (receive_in b m l x).verdict ≡ Refused refusal.NoPort) (λ a. receive_not_12 (port_at b a) l x) refl n;
+  receive = λ b n l x. unknown_only (λ (m : Option Side). (receive_in b m l x).verdict ≡ Err refusal.NoPort) (λ a. receive_not_12 (port_at b a) l x) refl n;
   slot = λ b n.
-      unknown_only (λ (m : name.Named). (slot_in b m).sent ≡ sent.Refused refusal.NoPort)
+      unknown_only (λ (m : Option Side). (slot_in b m).sent ≡ Err refusal.NoPort)
       (λ a e. let z = ((by_case.slot (port_at b a) refusal.NoPort).0 e).1 in never (cc)) refl n;
-  measure = λ b n m. unknown_only (λ (k : name.Named). (measure_in b k m).verdict ≡ Refused refusal.NoPort) (λ a. measure_not_12 (port_at b a) m) refl n;
+  measure = λ b n m. unknown_only (λ (k : Option Side). (measure_in b k m).verdict ≡ Err refusal.NoPort) (λ a. measure_not_12 (port_at b a) m) refl n;
   fill = λ b n room.
-      unknown_only (λ (m : name.Named). (fill_in b m room).verdict ≡ Refused refusal.NoPort)
+      unknown_only (λ (m : Option Side). (fill_in b m room).verdict ≡ Err refusal.NoPort)
       (λ a e. let z = (((fill.promised).by_case (port_at b a) room refusal.NoPort).0 e).1 in never (cc)) refl n;
 }
 
 pub unknown_same : UnknownSame
 unfolding receive_in slot_in measure_in fill_in fill_leaves_in
 unknown_same = record {
-  receive = λ b n l x. unknown (λ (m : name.Named). ((receive_in b m l x).connectors ≡ b) × ((receive_in b m l x).line ≡ l)) (refl, refl) n;
-  slot = λ b n. unknown (λ (m : name.Named). (slot_in b m).connectors ≡ b) refl n;
-  measure = λ b n m. unknown (λ (k : name.Named). (measure_in b k m).connectors ≡ b) refl n;
+  receive = λ b n l x. unknown (λ (m : Option Side). ((receive_in b m l x).connectors ≡ b) × ((receive_in b m l x).line ≡ l)) (refl, refl) n;
+  slot = λ b n. unknown (λ (m : Option Side). (slot_in b m).connectors ≡ b) refl n;
+  measure = λ b n m. unknown (λ (k : Option Side). (measure_in b k m).connectors ≡ b) refl n;
   fill = λ b n out.
-      unknown (λ (m : name.Named). ((fill_in b m (length out)).connectors ≡ b) × ((fill_in b m (length out)).count ≡ 0) × (fill_leaves_in b m out ≡ out)) (refl, refl, refl) n;
+      unknown (λ (m : Option Side). ((fill_in b m (length out)).connectors ≡ b) × ((fill_in b m (length out)).count ≡ 0) × (fill_leaves_in b m out ≡ out)) (refl, refl, refl) n;
 }
 
 pub sixteen_at : SixteenAt
 unfolding receive_in slot_in measure_in fill_in
 sixteen_at = record {
   receive = λ b n a l x e.
-      at_side (λ (m : name.Named). ((receive_in b m l x).verdict ≡ Refused refusal.State) ↔ (valid_port (port_at b a) && valid_line l ≡ false)) e (receive_16 (port_at b a) l x);
+      at_side (λ (m : Option Side). ((receive_in b m l x).verdict ≡ Err refusal.State) ↔ (valid_port (port_at b a) && valid_line l ≡ false)) e (receive_16 (port_at b a) l x);
   slot = λ b n a e.
       let c = by_case.slot (port_at b a) refusal.State in
-      at_side (λ (m : name.Named). ((slot_in b m).sent ≡ sent.Refused refusal.State) ↔ (valid_port (port_at b a) ≡ false)) e (λ r. (c.0 r).0, λ f. c.1 (f, refl));
+      at_side (λ (m : Option Side). ((slot_in b m).sent ≡ Err refusal.State) ↔ (valid_port (port_at b a) ≡ false)) e (λ r. (c.0 r).0, λ f. c.1 (f, refl));
   measure = λ b n a m e.
-      at_side (λ (k : name.Named). ((measure_in b k m).verdict ≡ Refused refusal.State) ↔ (valid_port (port_at b a) ≡ false)) e (measure_16 (port_at b a) m);
+      at_side (λ (k : Option Side). ((measure_in b k m).verdict ≡ Err refusal.State) ↔ (valid_port (port_at b a) ≡ false)) e (measure_16 (port_at b a) m);
   fill = λ b n a room e.
       let c = (fill.promised).by_case (port_at b a) room refusal.State in
-      at_side (λ (m : name.Named). ((fill_in b m room).verdict ≡ Refused refusal.State) ↔ (valid_port (port_at b a) ≡ false)) e (λ r. (c.0 r).0, λ f. c.1 (f, refl));
+      at_side (λ (m : Option Side). ((fill_in b m room).verdict ≡ Err refusal.State) ↔ (valid_port (port_at b a) ≡ false)) e (λ r. (c.0 r).0, λ f. c.1 (f, refl));
 }
 
 -- ---- a port in its place
@@ -121,52 +119,52 @@ pub as_the_port : AsThePort
 unfolding receive_in slot_in measure_in fill_in fill_leaves_in
 as_the_port = record {
   receive = λ b n a l x e. (
-    ap (λ (m : name.Named). (receive_in b m l x).verdict) e,
-    ap (λ (m : name.Named). (receive_in b m l x).line) e,
-    became b a (receive_of (port_at b a) l x).port (ap (λ (m : name.Named). (receive_in b m l x).connectors) e),
+    ap (λ (m : Option Side). (receive_in b m l x).verdict) e,
+    ap (λ (m : Option Side). (receive_in b m l x).line) e,
+    became b a (receive_of (port_at b a) l x).port (ap (λ (m : Option Side). (receive_in b m l x).connectors) e),
   );
   slot = λ b n a e. (
-    ap (λ (m : name.Named). (slot_in b m).sent) e,
-    became b a (slot_of (port_at b a)).port (ap (λ (m : name.Named). (slot_in b m).connectors) e),
+    ap (λ (m : Option Side). (slot_in b m).sent) e,
+    became b a (slot_of (port_at b a)).port (ap (λ (m : Option Side). (slot_in b m).connectors) e),
   );
   measure = λ b n a m e. (
-    ap (λ (k : name.Named). (measure_in b k m).verdict) e,
-    became b a (measure_of (port_at b a) m).port (ap (λ (k : name.Named). (measure_in b k m).connectors) e),
+    ap (λ (k : Option Side). (measure_in b k m).verdict) e,
+    became b a (measure_of (port_at b a) m).port (ap (λ (k : Option Side). (measure_in b k m).connectors) e),
   );
   fill = λ b n a room e. (
-    ap (λ (m : name.Named). (fill_in b m room).verdict) e,
-    ap (λ (m : name.Named). (fill_in b m room).count) e,
-    became b a (fill_of (port_at b a) room).port (ap (λ (m : name.Named). (fill_in b m room).connectors) e),
+    ap (λ (m : Option Side). (fill_in b m room).verdict) e,
+    ap (λ (m : Option Side). (fill_in b m room).count) e,
+    became b a (fill_of (port_at b a) room).port (ap (λ (m : Option Side). (fill_in b m room).connectors) e),
   );
-  fill_bytes = λ b n a out e. ap (λ (m : name.Named). fill_leaves_in b m out) e;
+  fill_bytes = λ b n a out e. ap (λ (m : Option Side). fill_leaves_in b m out) e;
 }
 
 pub refused_same : RefusedSame
 unfolding receive_in slot_in measure_in fill_in fill_leaves_in
 refused_same = record {
   receive = λ b n l x r.
-      each (λ (m : name.Named). (receive_in b m l x).verdict ≡ Refused r → (receive_in b m l x).connectors ≡ b)
+      each (λ (m : Option Side). (receive_in b m l x).verdict ≡ Err r → (receive_in b m l x).connectors ≡ b)
       (λ a e. put_back b a ((port.refused_same).receive (port_at b a) l x r e)) (λ e. refl) (side_of n);
   receive_12 = λ b n l x.
-      each (λ (m : name.Named). (receive_in b m l x).verdict ≡ Refused refusal.NoPort → (receive_in b m l x).line ≡ l)
+      each (λ (m : Option Side). (receive_in b m l x).verdict ≡ Err refusal.NoPort → (receive_in b m l x).line ≡ l)
       (λ a e. absurd (receive_not_12 (port_at b a) l x e)) (λ e. refl) (side_of n);
   receive_16 = λ b n l x.
-      each (λ (m : name.Named). (receive_in b m l x).verdict ≡ Refused refusal.State → (receive_in b m l x).line ≡ l)
+      each (λ (m : Option Side). (receive_in b m l x).verdict ≡ Err refusal.State → (receive_in b m l x).line ≡ l)
       (λ a. (port.refused_same).receive_16 (port_at b a) l x) (λ e. refl) (side_of n);
   receive_7 = λ b n l x.
-      each (λ (m : name.Named). (receive_in b m l x).verdict ≡ Refused refusal.Dropped → (receive_in b m l x).line ≡ blank)
+      each (λ (m : Option Side). (receive_in b m l x).verdict ≡ Err refusal.Dropped → (receive_in b m l x).line ≡ blank)
       (λ a. (port.refused_same).receive_7 (port_at b a) l x) (λ e. never (cc)) (side_of n);
   slot = λ b n r.
-      each (λ (m : name.Named). (slot_in b m).sent ≡ sent.Refused r → (slot_in b m).connectors ≡ b)
+      each (λ (m : Option Side). (slot_in b m).sent ≡ Err r → (slot_in b m).connectors ≡ b)
       (λ a e. put_back b a ((port.refused_same).slot (port_at b a) r e)) (λ e. refl) (side_of n);
   measure = λ b n m r.
-      each (λ (k : name.Named). (measure_in b k m).verdict ≡ Refused r → (measure_in b k m).connectors ≡ b)
+      each (λ (k : Option Side). (measure_in b k m).verdict ≡ Err r → (measure_in b k m).connectors ≡ b)
       (λ a e. put_back b a ((port.refused_same).measure (port_at b a) m r e)) (λ e. refl) (side_of n);
   fill = λ b n room r.
-      each (λ (m : name.Named). (fill_in b m room).verdict ≡ Refused r → (fill_in b m room).connectors ≡ b)
+      each (λ (m : Option Side). (fill_in b m room).verdict ≡ Err r → (fill_in b m room).connectors ≡ b)
       (λ a e. put_back b a ((fill.promised).refused_port (port_at b a) room r e)) (λ e. refl) (side_of n);
   fill_bytes = λ b n out r.
-      each (λ (m : name.Named). (fill_in b m (length out)).verdict ≡ Refused r → fill_leaves_in b m out ≡ out)
+      each (λ (m : Option Side). (fill_in b m (length out)).verdict ≡ Err r → fill_leaves_in b m out ≡ out)
       (λ a. (fill.promised).refused_bytes (port_at b a) out r) (λ e. refl) (side_of n);
 }
 
@@ -199,7 +197,7 @@ both_valid b External p v w External = v
 none_valid : valid_port unstarted ≡ false
 unfolding measurement_verdict
 none_valid =
-    told (valid_port unstarted) (λ v. let e : Refused (refusal.Field 0) ≡ Done = ((sixteen_when unstarted).0 v).measurement in never (cc)) (λ f. f)
+    told (valid_port unstarted) (λ v. let e : Err (refusal.Field 0) ≡ Ok tt = ((sixteen_when unstarted).0 v).measurement in never (cc)) (λ f. f)
 
 unstarted_none : (a : Side) → valid_port (port_at unstarted_both a) ≡ false
 unstarted_none Camera = none_valid
@@ -210,14 +208,14 @@ unfolding receive_in slot_in measure_in fill_in
 kept_valid = record {
   start = started_valid;
   receive = λ b n l x v.
-      each (λ (m : name.Named). BothValid (receive_in b m l x).connectors) (λ a. both_valid b a _ ((port.kept_valid).receive (port_at b a) l x (v a)) v) v (side_of n);
+      each (λ (m : Option Side). BothValid (receive_in b m l x).connectors) (λ a. both_valid b a _ ((port.kept_valid).receive (port_at b a) l x (v a)) v) v (side_of n);
   line = λ b n l x v.
-      each (λ (m : name.Named). valid_line (receive_in b m l x).line ≡ true) (λ a. (port.kept_valid).line (port_at b a) l x v) v (side_of n);
-  slot = λ b n v. each (λ (m : name.Named). BothValid (slot_in b m).connectors) (λ a. both_valid b a _ ((port.kept_valid).slot (port_at b a) (v a)) v) v (side_of n);
+      each (λ (m : Option Side). valid_line (receive_in b m l x).line ≡ true) (λ a. (port.kept_valid).line (port_at b a) l x v) v (side_of n);
+  slot = λ b n v. each (λ (m : Option Side). BothValid (slot_in b m).connectors) (λ a. both_valid b a _ ((port.kept_valid).slot (port_at b a) (v a)) v) v (side_of n);
   measure = λ b n m v.
-      each (λ (k : name.Named). BothValid (measure_in b k m).connectors) (λ a. both_valid b a _ ((port.kept_valid).measure (port_at b a) m (v a)) v) v (side_of n);
+      each (λ (k : Option Side). BothValid (measure_in b k m).connectors) (λ a. both_valid b a _ ((port.kept_valid).measure (port_at b a) m (v a)) v) v (side_of n);
   fill = λ b n room v.
-      each (λ (m : name.Named). BothValid (fill_in b m room).connectors) (λ a. both_valid b a _ ((fill.promised).kept_valid (port_at b a) room (v a)) v) v (side_of n);
+      each (λ (m : Option Side). BothValid (fill_in b m room).connectors) (λ a. both_valid b a _ ((fill.promised).kept_valid (port_at b a) room (v a)) v) v (side_of n);
   unstarted = unstarted_none;
 }
 

@@ -1,9 +1,8 @@
 -- What the entries of the box promise beside their exact answers: statements only. A number that names no port is refused before all and changes
 -- nothing; on a port each entry is the base's; a refusal changes nothing; valid ports stay valid.
-use Rattle.std.specs.Prelude.{ℕ, true, false, ◌&&◌, List, ◌↔◌, ◌⊎◌, ◌≢◌, ◌≡◌, length}
+use Rattle.std.specs.Prelude.{ℕ, true, false, ◌&&◌, List, ◌↔◌, ◌⊎◌, ◌≢◌, ◌≡◌, length, Err, None, Ok, Some}
 use Rattle.refusal.specs.declared.Refusal.{Refusal}
 use Rattle.refusal.specs.declared.Refusal.TheVariants as refusal
-use Rattle.refusal.specs.declared.Verdict.TheVariants.{Done, Refused}
 use Rattle.fixed.specs.Fixed.{settings_lowest}
 use Rattle.fixed.specs.declared.Settings.{Settings}
 use Rattle.units.specs.Measurement.{measurement_verdict}
@@ -11,12 +10,10 @@ use Rattle.units.specs.declared.Measurement.{Measurement}
 use Rattle.line.specs.declared.Line.{Line}
 use Rattle.line.specs.Line.{blank, valid_line}
 use Rattle.port.specs.declared.Port.{Port}
-use Rattle.port.specs.declared.Sent.TheVariants as sent
 use Rattle.port.specs.Port.{valid_port, slot_of, receive_of, measure_of, started_port}
 use Rattle.fill.specs.Fill.{fill_of, fill_leaves}
 use Rattle.connectors.specs.declared.Side.{Side}
 use Rattle.connectors.specs.declared.Side.TheVariants.{Camera, External}
-use Rattle.connectors.specs.declared.Named.TheVariants.{At, Nowhere}
 use Rattle.connectors.specs.declared.Connector.{Connector}
 use Rattle.connectors.specs.declared.Connectors.{Connectors}
 use Rattle.connectors.specs.declared.Lines.{Lines}
@@ -29,16 +26,16 @@ Unknown n = (n ≢ 0) × (n ≢ 1)
 
 -- "Ports: 0 the camera contacts, 1 the external connector", and no other number names one
 pub record Named : Type 0 where
-  pub camera : (n : ℕ) → (side_of n ≡ At Camera) ↔ (n ≡ 0)
-  pub external : (n : ℕ) → (side_of n ≡ At External) ↔ (n ≡ 1)
-  pub nowhere : (n : ℕ) → (side_of n ≡ Nowhere) ↔ Unknown n
+  pub camera : (n : ℕ) → (side_of n ≡ Some Camera) ↔ (n ≡ 0)
+  pub external : (n : ℕ) → (side_of n ≡ Some External) ↔ (n ≡ 1)
+  pub nowhere : (n : ℕ) → (side_of n ≡ None) ↔ Unknown n
 
 -- "Refusals: 12, no such port, before all others": it is given for those numbers and no others, whatever the state is, an invalid one too
 pub record NoSuchPort : Type 0 where
-  pub receive : (b : Connectors) (n : ℕ) (l : Line) (x : ℕ) → ((receive_at b n l x).verdict ≡ Refused refusal.NoPort) ↔ Unknown n
-  pub slot : (b : Connectors) (n : ℕ) → ((slot_at b n).sent ≡ sent.Refused refusal.NoPort) ↔ Unknown n
-  pub measure : (b : Connectors) (n : ℕ) (m : Measurement) → ((measure_at b n m).verdict ≡ Refused refusal.NoPort) ↔ Unknown n
-  pub fill : (b : Connectors) (n room : ℕ) → ((fill_at b n room).verdict ≡ Refused refusal.NoPort) ↔ Unknown n
+  pub receive : (b : Connectors) (n : ℕ) (l : Line) (x : ℕ) → ((receive_at b n l x).verdict ≡ Err refusal.NoPort) ↔ Unknown n
+  pub slot : (b : Connectors) (n : ℕ) → ((slot_at b n).sent ≡ Err refusal.NoPort) ↔ Unknown n
+  pub measure : (b : Connectors) (n : ℕ) (m : Measurement) → ((measure_at b n m).verdict ≡ Err refusal.NoPort) ↔ Unknown n
+  pub fill : (b : Connectors) (n room : ℕ) → ((fill_at b n room).verdict ≡ Err refusal.NoPort) ↔ Unknown n
 
 -- "An unknown port number changes nothing": not the box, nor the line, nor lent memory
 pub record UnknownSame : Type 0 where
@@ -68,40 +65,40 @@ pub record Became (b : Connectors) (a : Side) (p : Port) (after : Connectors) : 
 -- "Each port has its own line, waiting place, modes, unit, film, measurement, rate and slots", "Shared are fixed data and the start-up letter": a port
 -- that a number names answers what the base's port does over the shared settings, and becomes the port that it hands back
 pub record AsThePort : Type 0 where
-  pub receive : (b : Connectors) (n : ℕ) (a : Side) (l : Line) (x : ℕ) → side_of n ≡ At a →
+  pub receive : (b : Connectors) (n : ℕ) (a : Side) (l : Line) (x : ℕ) → side_of n ≡ Some a →
       ((receive_at b n l x).verdict ≡ (receive_of (port_at b a) l x).verdict) ×
       ((receive_at b n l x).line ≡ (receive_of (port_at b a) l x).line) ×
       Became b a (receive_of (port_at b a) l x).port (receive_at b n l x).connectors
-  pub slot : (b : Connectors) (n : ℕ) (a : Side) → side_of n ≡ At a →
+  pub slot : (b : Connectors) (n : ℕ) (a : Side) → side_of n ≡ Some a →
       ((slot_at b n).sent ≡ (slot_of (port_at b a)).sent) × Became b a (slot_of (port_at b a)).port (slot_at b n).connectors
-  pub measure : (b : Connectors) (n : ℕ) (a : Side) (m : Measurement) → side_of n ≡ At a →
+  pub measure : (b : Connectors) (n : ℕ) (a : Side) (m : Measurement) → side_of n ≡ Some a →
       ((measure_at b n m).verdict ≡ (measure_of (port_at b a) m).verdict) × Became b a (measure_of (port_at b a) m).port (measure_at b n m).connectors
-  pub fill : (b : Connectors) (n : ℕ) (a : Side) (room : ℕ) → side_of n ≡ At a →
+  pub fill : (b : Connectors) (n : ℕ) (a : Side) (room : ℕ) → side_of n ≡ Some a →
       ((fill_at b n room).verdict ≡ (fill_of (port_at b a) room).verdict) ×
       ((fill_at b n room).count ≡ (fill_of (port_at b a) room).count) ×
       Became b a (fill_of (port_at b a) room).port (fill_at b n room).connectors
-  pub fill_bytes : (b : Connectors) (n : ℕ) (a : Side) (out : List ℕ) → side_of n ≡ At a → fill_leaves_at b n out ≡ fill_leaves (port_at b a) out
+  pub fill_bytes : (b : Connectors) (n : ℕ) (a : Side) (out : List ℕ) → side_of n ≡ Some a → fill_leaves_at b n out ≡ fill_leaves (port_at b a) out
 
 -- "16 judges the shared settings and the named port": the other port's own parts have no say, nor has the other's line
 pub record SixteenAt : Type 0 where
-  pub receive : (b : Connectors) (n : ℕ) (a : Side) (l : Line) (x : ℕ) → side_of n ≡ At a →
-      ((receive_at b n l x).verdict ≡ Refused refusal.State) ↔ (valid_port (port_at b a) && valid_line l ≡ false)
-  pub slot : (b : Connectors) (n : ℕ) (a : Side) → side_of n ≡ At a → ((slot_at b n).sent ≡ sent.Refused refusal.State) ↔ (valid_port (port_at b a) ≡ false)
-  pub measure : (b : Connectors) (n : ℕ) (a : Side) (m : Measurement) → side_of n ≡ At a →
-      ((measure_at b n m).verdict ≡ Refused refusal.State) ↔ (valid_port (port_at b a) ≡ false)
-  pub fill : (b : Connectors) (n : ℕ) (a : Side) (room : ℕ) → side_of n ≡ At a →
-      ((fill_at b n room).verdict ≡ Refused refusal.State) ↔ (valid_port (port_at b a) ≡ false)
+  pub receive : (b : Connectors) (n : ℕ) (a : Side) (l : Line) (x : ℕ) → side_of n ≡ Some a →
+      ((receive_at b n l x).verdict ≡ Err refusal.State) ↔ (valid_port (port_at b a) && valid_line l ≡ false)
+  pub slot : (b : Connectors) (n : ℕ) (a : Side) → side_of n ≡ Some a → ((slot_at b n).sent ≡ Err refusal.State) ↔ (valid_port (port_at b a) ≡ false)
+  pub measure : (b : Connectors) (n : ℕ) (a : Side) (m : Measurement) → side_of n ≡ Some a →
+      ((measure_at b n m).verdict ≡ Err refusal.State) ↔ (valid_port (port_at b a) ≡ false)
+  pub fill : (b : Connectors) (n : ℕ) (a : Side) (room : ℕ) → side_of n ≡ Some a →
+      ((fill_at b n room).verdict ≡ Err refusal.State) ↔ (valid_port (port_at b a) ≡ false)
 
 -- "Bad settings, measurements .. change no state"; "a command refused with 7 leaves its line empty and all else as it was"
 pub record RefusedSame : Type 0 where
-  pub receive : (b : Connectors) (n : ℕ) (l : Line) (x : ℕ) (r : Refusal) → (receive_at b n l x).verdict ≡ Refused r → (receive_at b n l x).connectors ≡ b
-  pub receive_12 : (b : Connectors) (n : ℕ) (l : Line) (x : ℕ) → (receive_at b n l x).verdict ≡ Refused refusal.NoPort → (receive_at b n l x).line ≡ l
-  pub receive_16 : (b : Connectors) (n : ℕ) (l : Line) (x : ℕ) → (receive_at b n l x).verdict ≡ Refused refusal.State → (receive_at b n l x).line ≡ l
-  pub receive_7 : (b : Connectors) (n : ℕ) (l : Line) (x : ℕ) → (receive_at b n l x).verdict ≡ Refused refusal.Dropped → (receive_at b n l x).line ≡ blank
-  pub slot : (b : Connectors) (n : ℕ) (r : Refusal) → (slot_at b n).sent ≡ sent.Refused r → (slot_at b n).connectors ≡ b
-  pub measure : (b : Connectors) (n : ℕ) (m : Measurement) (r : Refusal) → (measure_at b n m).verdict ≡ Refused r → (measure_at b n m).connectors ≡ b
-  pub fill : (b : Connectors) (n room : ℕ) (r : Refusal) → (fill_at b n room).verdict ≡ Refused r → (fill_at b n room).connectors ≡ b
-  pub fill_bytes : (b : Connectors) (n : ℕ) (out : List ℕ) (r : Refusal) → (fill_at b n (length out)).verdict ≡ Refused r → fill_leaves_at b n out ≡ out
+  pub receive : (b : Connectors) (n : ℕ) (l : Line) (x : ℕ) (r : Refusal) → (receive_at b n l x).verdict ≡ Err r → (receive_at b n l x).connectors ≡ b
+  pub receive_12 : (b : Connectors) (n : ℕ) (l : Line) (x : ℕ) → (receive_at b n l x).verdict ≡ Err refusal.NoPort → (receive_at b n l x).line ≡ l
+  pub receive_16 : (b : Connectors) (n : ℕ) (l : Line) (x : ℕ) → (receive_at b n l x).verdict ≡ Err refusal.State → (receive_at b n l x).line ≡ l
+  pub receive_7 : (b : Connectors) (n : ℕ) (l : Line) (x : ℕ) → (receive_at b n l x).verdict ≡ Err refusal.Dropped → (receive_at b n l x).line ≡ blank
+  pub slot : (b : Connectors) (n : ℕ) (r : Refusal) → (slot_at b n).sent ≡ Err r → (slot_at b n).connectors ≡ b
+  pub measure : (b : Connectors) (n : ℕ) (m : Measurement) (r : Refusal) → (measure_at b n m).verdict ≡ Err r → (measure_at b n m).connectors ≡ b
+  pub fill : (b : Connectors) (n room : ℕ) (r : Refusal) → (fill_at b n room).verdict ≡ Err r → (fill_at b n room).connectors ≡ b
+  pub fill_bytes : (b : Connectors) (n : ℕ) (out : List ℕ) (r : Refusal) → (fill_at b n (length out)).verdict ≡ Err r → fill_leaves_at b n out ≡ out
 
 -- ---- a restart
 
@@ -109,24 +106,24 @@ pub record RefusedSame : Type 0 where
 abbrev pub RestartCase : Settings → Measurement → Measurement → Refusal → Type 0
 RestartCase s camera external r =
     ((settings_lowest s ≢ 0) × (r ≡ refusal.Setting (settings_lowest s)))
-    ⊎ ((settings_lowest s ≡ 0) × (measurement_verdict camera ≡ Refused r))
-    ⊎ ((settings_lowest s ≡ 0) × (measurement_verdict camera ≡ Done) × (measurement_verdict external ≡ Refused r))
+    ⊎ ((settings_lowest s ≡ 0) × (measurement_verdict camera ≡ Err r))
+    ⊎ ((settings_lowest s ≡ 0) × (measurement_verdict camera ≡ Ok tt) × (measurement_verdict external ≡ Err r))
 
 -- "A restart restarts both from settings handed in", the first start too
 pub record Restart : Type 0 where
   pub accepted : (old : Connectors) (lines : Lines) (s : Settings) (camera external : Measurement) →
-      ((start_both old lines s camera external).verdict ≡ Done)
-      ↔ ((settings_lowest s ≡ 0) × (measurement_verdict camera ≡ Done) × (measurement_verdict external ≡ Done))
+      ((start_both old lines s camera external).verdict ≡ Ok tt)
+      ↔ ((settings_lowest s ≡ 0) × (measurement_verdict camera ≡ Ok tt) × (measurement_verdict external ≡ Ok tt))
   pub refused : (old : Connectors) (lines : Lines) (s : Settings) (camera external : Measurement) (r : Refusal) →
-      ((start_both old lines s camera external).verdict ≡ Refused r) ↔ RestartCase s camera external r
+      ((start_both old lines s camera external).verdict ≡ Err r) ↔ RestartCase s camera external r
   -- "a refused one changes neither"
   pub refused_same : (old : Connectors) (lines : Lines) (s : Settings) (camera external : Measurement) (r : Refusal) →
-      (start_both old lines s camera external).verdict ≡ Refused r →
+      (start_both old lines s camera external).verdict ≡ Err r →
       ((start_both old lines s camera external).connectors ≡ old) × ((start_both old lines s camera external).lines ≡ lines)
   -- accepted, both are new ports of these settings, each with its measurement and an empty line
-  pub camera_port : (old : Connectors) (lines : Lines) (s : Settings) (camera external : Measurement) → (start_both old lines s camera external).verdict ≡ Done →
+  pub camera_port : (old : Connectors) (lines : Lines) (s : Settings) (camera external : Measurement) → (start_both old lines s camera external).verdict ≡ Ok tt →
       (port_at (start_both old lines s camera external).connectors Camera ≡ started_port s camera) × ((start_both old lines s camera external).lines.camera ≡ blank)
-  pub external_port : (old : Connectors) (lines : Lines) (s : Settings) (camera external : Measurement) → (start_both old lines s camera external).verdict ≡ Done →
+  pub external_port : (old : Connectors) (lines : Lines) (s : Settings) (camera external : Measurement) → (start_both old lines s camera external).verdict ≡ Ok tt →
       (port_at (start_both old lines s camera external).connectors External ≡ started_port s external) × ((start_both old lines s camera external).lines.external ≡ blank)
 
 -- ---- valid ports
@@ -136,7 +133,7 @@ BothValid b = (a : Side) → valid_port (port_at b a) ≡ true
 
 -- an accepted start makes both ports valid, and every entry keeps them so, the named one and the other; and a valid line
 pub record KeptValid : Type 0 where
-  pub start : (old : Connectors) (lines : Lines) (s : Settings) (camera external : Measurement) → (start_both old lines s camera external).verdict ≡ Done →
+  pub start : (old : Connectors) (lines : Lines) (s : Settings) (camera external : Measurement) → (start_both old lines s camera external).verdict ≡ Ok tt →
       BothValid (start_both old lines s camera external).connectors
   pub receive : (b : Connectors) (n : ℕ) (l : Line) (x : ℕ) → BothValid b → BothValid (receive_at b n l x).connectors
   pub line : (b : Connectors) (n : ℕ) (l : Line) (x : ℕ) → valid_line l ≡ true → valid_line (receive_at b n l x).line ≡ true

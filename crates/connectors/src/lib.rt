@@ -3,14 +3,14 @@
 #![tactic(auto)]
 
 ghost use Rattle.std.specs.Prelude.{◌≡◌};
-ghost use Rattle.connectors.specs.Connectors.{side_of, port_with, own_of, first_refused, started_by};
+ghost use Rattle.connectors.specs.Connectors.{side_of, port_with, own_of, started_by};
 ghost use Rattle.connectors.specs.Clauses.{ConnectorsPortAt, ConnectorsWithPort, ConnectorsUnstarted, ConnectorsStart, ConnectorsReceive, ConnectorsSlot, ConnectorsMeasure, ConnectorsFill};
 
 use fixed::Settings;
 use line::Line;
-use port::{Port, Sent};
-use refusal::{Refusal, Verdict};
-use state::{Last, Message, Modes, Source, Waiting};
+use port::Port;
+use refusal::Refusal;
+use state::{Last, Message, Modes, Source};
 use units::Measurement;
 
 // The camera contacts, and the external connector.
@@ -20,13 +20,6 @@ pub enum Side {
     External,
 }
 
-// What a port number names.
-#[derive(Clone, Copy)]
-pub enum Named {
-    At(Side),
-    Nowhere,
-}
-
 // What a port has of its own, beside the line that its driver collects.
 #[derive(Clone, Copy)]
 pub struct Connector {
@@ -34,7 +27,7 @@ pub struct Connector {
     pub modes: Modes,
     pub message: Message,
     pub last: Last,
-    pub waiting: Waiting,
+    pub waiting: Option<Line>,
 }
 
 #[derive(Clone, Copy)]
@@ -54,47 +47,47 @@ pub struct Lines {
 // What a start hands back: the lines too, both empty where it is accepted.
 #[derive(Clone, Copy)]
 pub struct StartedBoth {
-    pub verdict: Verdict,
+    pub verdict: Result<(), Refusal>,
     pub connectors: Connectors,
     pub lines: Lines,
 }
 
 #[derive(Clone, Copy)]
 pub struct ReceivedAt {
-    pub verdict: Verdict,
+    pub verdict: Result<(), Refusal>,
     pub connectors: Connectors,
     pub line: Line,
 }
 
 #[derive(Clone, Copy)]
 pub struct SlottedAt {
-    pub sent: Sent,
+    pub sent: Result<Option<u8>, Refusal>,
     pub connectors: Connectors,
 }
 
 // What a new measurement hands back.
 #[derive(Clone, Copy)]
 pub struct HandedAt {
-    pub verdict: Verdict,
+    pub verdict: Result<(), Refusal>,
     pub connectors: Connectors,
 }
 
 #[derive(Clone, Copy)]
 pub struct FilledAt {
-    pub verdict: Verdict,
+    pub verdict: Result<(), Refusal>,
     // the bytes written, a byte for each sending slot that was run
     pub count: usize,
     pub connectors: Connectors,
 }
 
 // The port that a number names: 0 the camera contacts, 1 the external connector.
-fn side_of(number: u8) -> Named
+fn side_of(number: u8) -> Option<Side>
     ensures { result ≡ side_of number }
 {
     match number {
-        0 => Named::At(Side::Camera),
-        1 => Named::At(Side::External),
-        _ => Named::Nowhere,
+        0 => Some(Side::Camera),
+        1 => Some(Side::External),
+        _ => None,
     }
 }
 
@@ -102,21 +95,15 @@ fn side_of(number: u8) -> Named
 fn port_with(settings: Settings, own: Connector) -> Port
     ensures { result ≡ port_with settings own }
 {
-    let measurement = own.measurement;
-    let modes = own.modes;
-    let message = own.message;
-    let last = own.last;
-    let waiting = own.waiting;
-    let source = Source {
-        settings,
-        measurement,
-        modes,
-    };
     Port {
-        source,
-        message,
-        last,
-        waiting,
+        source: Source {
+            settings,
+            measurement: own.measurement,
+            modes: own.modes,
+        },
+        message: own.message,
+        last: own.last,
+        waiting: own.waiting,
     }
 }
 
@@ -124,46 +111,35 @@ fn port_with(settings: Settings, own: Connector) -> Port
 fn own_of(port: Port) -> Connector
     ensures { result ≡ own_of port }
 {
-    let source = port.source;
-    let measurement = source.measurement;
-    let modes = source.modes;
-    let message = port.message;
-    let last = port.last;
-    let waiting = port.waiting;
     Connector {
-        measurement,
-        modes,
-        message,
-        last,
-        waiting,
-    }
-}
-
-// The first refusal of two verdicts.
-fn first_refused(first: Verdict, second: Verdict) -> Verdict
-    ensures { result ≡ first_refused first second }
-{
-    match first {
-        Verdict::Done => second,
-        Verdict::Refused(r) => Verdict::Refused(r),
+        measurement: port.source.measurement,
+        modes: port.source.modes,
+        message: port.message,
+        last: port.last,
+        waiting: port.waiting,
     }
 }
 
 // What a verdict on a start hands back: the new box and two empty lines, or the old ones.
-fn started_by(verdict: Verdict, new: Connectors, old: Connectors, lines: Lines) -> StartedBoth
+fn started_by(
+    verdict: Result<(), Refusal>,
+    new: Connectors,
+    old: Connectors,
+    lines: Lines,
+) -> StartedBoth
     ensures { result ≡ started_by verdict new old lines }
 {
     match verdict {
-        Verdict::Done => StartedBoth {
-            verdict: Verdict::Done,
+        Ok(()) => StartedBoth {
+            verdict,
             connectors: new,
             lines: Lines {
                 camera: Line::blank(),
                 external: Line::blank(),
             },
         },
-        Verdict::Refused(r) => StartedBoth {
-            verdict: Verdict::Refused(r),
+        Err(_) => StartedBoth {
+            verdict,
             connectors: old,
             lines,
         },
@@ -175,16 +151,9 @@ impl Connectors {
     pub fn port_at(self, side: Side) -> Port
         ensures { ConnectorsPortAt self side result }
     {
-        let settings = self.settings;
         match side {
-            Side::Camera => {
-                let own = self.camera;
-                port_with(settings, own)
-            }
-            Side::External => {
-                let own = self.external;
-                port_with(settings, own)
-            }
+            Side::Camera => port_with(self.settings, self.camera),
+            Side::External => port_with(self.settings, self.external),
         }
     }
 
@@ -192,18 +161,11 @@ impl Connectors {
     pub fn with_port(self, side: Side, port: Port) -> Connectors
         ensures { ConnectorsWithPort self side port result }
     {
-        let own = own_of(port);
-        let source = port.source;
-        let settings = source.settings;
         let mut after = self;
-        after.settings = settings;
+        after.settings = port.source.settings;
         match side {
-            Side::Camera => {
-                after.camera = own;
-            }
-            Side::External => {
-                after.external = own;
-            }
+            Side::Camera => after.camera = own_of(port),
+            Side::External => after.external = own_of(port),
         }
         after
     }
@@ -213,11 +175,9 @@ impl Connectors {
         ensures { ConnectorsUnstarted result }
     {
         let port = Port::unstarted();
-        let source = port.source;
-        let settings = source.settings;
         let own = own_of(port);
         Connectors {
-            settings,
+            settings: port.source.settings,
             camera: own,
             external: own,
         }
@@ -241,9 +201,7 @@ impl Connectors {
             settings,
             external,
         );
-        let camera_verdict = first.verdict;
-        let external_verdict = second.verdict;
-        let verdict = first_refused(camera_verdict, external_verdict);
+        let verdict = first.verdict.and(second.verdict);
         let half = old.with_port(Side::Camera, first.port);
         let new = half.with_port(Side::External, second.port);
         started_by(verdict, new, old, lines)
@@ -253,25 +211,18 @@ impl Connectors {
     pub fn receive(self, number: u8, line: Line, byte: u8) -> ReceivedAt
         ensures { ConnectorsReceive self number line byte result }
     {
-        let named = side_of(number);
-        match named {
-            Named::At(side) => {
-                let port = self.port_at(side);
-                let received = port.receive(line, byte);
-                let verdict = received.verdict;
-                let after = received.port;
-                let collected = received.line;
-                ReceivedAt {
-                    verdict,
-                    connectors: self.with_port(side, after),
-                    line: collected,
-                }
-            }
-            Named::Nowhere => ReceivedAt {
-                verdict: Verdict::Refused(Refusal::NoPort),
+        let Some(side) = side_of(number) else {
+            return ReceivedAt {
+                verdict: Err(Refusal::NoPort),
                 connectors: self,
                 line,
-            },
+            };
+        };
+        let received = self.port_at(side).receive(line, byte);
+        ReceivedAt {
+            verdict: received.verdict,
+            connectors: self.with_port(side, received.port),
+            line: received.line,
         }
     }
 
@@ -279,22 +230,16 @@ impl Connectors {
     pub fn slot(self, number: u8) -> SlottedAt
         ensures { ConnectorsSlot self number result }
     {
-        let named = side_of(number);
-        match named {
-            Named::At(side) => {
-                let port = self.port_at(side);
-                let slotted = port.slot();
-                let sent = slotted.sent;
-                let after = slotted.port;
-                SlottedAt {
-                    sent,
-                    connectors: self.with_port(side, after),
-                }
-            }
-            Named::Nowhere => SlottedAt {
-                sent: Sent::Refused(Refusal::NoPort),
+        let Some(side) = side_of(number) else {
+            return SlottedAt {
+                sent: Err(Refusal::NoPort),
                 connectors: self,
-            },
+            };
+        };
+        let slotted = self.port_at(side).slot();
+        SlottedAt {
+            sent: slotted.sent,
+            connectors: self.with_port(side, slotted.port),
         }
     }
 
@@ -302,22 +247,16 @@ impl Connectors {
     pub fn measure(self, number: u8, measurement: Measurement) -> HandedAt
         ensures { ConnectorsMeasure self number measurement result }
     {
-        let named = side_of(number);
-        match named {
-            Named::At(side) => {
-                let port = self.port_at(side);
-                let handed = port.measure(measurement);
-                let verdict = handed.verdict;
-                let after = handed.port;
-                HandedAt {
-                    verdict,
-                    connectors: self.with_port(side, after),
-                }
-            }
-            Named::Nowhere => HandedAt {
-                verdict: Verdict::Refused(Refusal::NoPort),
+        let Some(side) = side_of(number) else {
+            return HandedAt {
+                verdict: Err(Refusal::NoPort),
                 connectors: self,
-            },
+            };
+        };
+        let handed = self.port_at(side).measure(measurement);
+        HandedAt {
+            verdict: handed.verdict,
+            connectors: self.with_port(side, handed.port),
         }
     }
 
@@ -325,24 +264,18 @@ impl Connectors {
     pub fn fill(self, number: u8, out: &mut [u8]) -> FilledAt
         ensures { ConnectorsFill self number out.old result out.new }
     {
-        let named = side_of(number);
-        match named {
-            Named::At(side) => {
-                let port = self.port_at(side);
-                let filled = fill::fill(port, out);
-                let verdict = filled.verdict;
-                let after = filled.port;
-                FilledAt {
-                    verdict,
-                    count: filled.count,
-                    connectors: self.with_port(side, after),
-                }
-            }
-            Named::Nowhere => FilledAt {
-                verdict: Verdict::Refused(Refusal::NoPort),
+        let Some(side) = side_of(number) else {
+            return FilledAt {
+                verdict: Err(Refusal::NoPort),
                 count: 0,
                 connectors: self,
-            },
+            };
+        };
+        let filled = fill::fill(self.port_at(side), out);
+        FilledAt {
+            verdict: filled.verdict,
+            count: filled.count,
+            connectors: self.with_port(side, filled.port),
         }
     }
 }

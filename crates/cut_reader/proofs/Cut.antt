@@ -6,13 +6,14 @@ use native.Mathlib.Omega.{arith}
 use borrow.Author.Tests.{le-leb, lt-leb, leb-true, leb-false}
 use lib.Dec.{leb}
 use lib.ListN.{length, take}
+use Rattle.std.specs.Prelude.{Err, Ok}
 use Rattle.laws.proofs.Tests.{cond_yes, cond_no, told}
-use Rattle.refusal.specs.Answer.{Answer, accepted, refused, unless}
+use Rattle.refusal.specs.Answer.{Answer, unless}
 use Rattle.refusal.specs.declared.Refusal.TheVariants.{TooLong}
 use Rattle.cutter.specs.Cutter.{cutter_length, held_from, held_message, then_read}
 use Rattle.cutter.specs.Stream.{judged}
 use Rattle.cutter.specs.declared.Cutter.{Cutter}
-use Rattle.cutter.proofs.Cuts.{held_small, held_long}
+use Rattle.cutter.proofs.Cuts.{message_whole, message_long, held_small, held_long}
 
 module _ {A : Type 0} (read : List ℕ → Answer A) where
   -- ---- a whole message
@@ -21,19 +22,19 @@ module _ {A : Type 0} (read : List ℕ → Answer A) where
   unfolding judged unless
   judged_fits m h = cond_yes _ _ (le-leb _ _ h)
 
-  pub judged_long : (m : List ℕ) → cutter_length < length m → judged read m ≡ refused TooLong
+  pub judged_long : (m : List ℕ) → cutter_length < length m → judged read m ≡ Err TooLong
   unfolding judged unless
   judged_long m h = cond_no _ _ (lt-leb _ _ h)
 
   -- ---- one that a cutter holds
 
   pub held_fits : (c : Cutter) → c.len ≤ cutter_length → then_read read (held_message c) ≡ read (take c.len c.bytes)
-  unfolding held_message unless then_read
-  held_fits c h = ap (then_read read) (cond_yes _ _ (le-leb _ _ h))
+  unfolding then_read
+  held_fits c h = ap (then_read read) (message_whole c h)
 
-  pub held_over : (c : Cutter) → cutter_length < c.len → then_read read (held_message c) ≡ refused TooLong
-  unfolding held_message unless then_read
-  held_over c h = ap (then_read read) (cond_no _ _ (lt-leb _ _ h))
+  pub held_over : (c : Cutter) → cutter_length < c.len → then_read read (held_message c) ≡ Err TooLong
+  unfolding then_read
+  held_over c h = ap (then_read read) (message_long c h)
 
   -- ---- one that began in its piece
 
@@ -44,7 +45,7 @@ module _ {A : Type 0} (read : List ℕ → Answer A) where
       told (leb (length part) cutter_length)
       (λ e.
       let h = leb-true _ _ e in
-      ap (then_read read) (held_small c part long (omega arith) ∙ ap (λ (n : ℕ). accepted (take n c.bytes ++ part)) z) ∙ sym (judged_fits part h))
+      ap (then_read read) (held_small c part long (omega arith) ∙ ap (λ (n : ℕ). Ok (take n c.bytes ++ part)) z) ∙ sym (judged_fits part h))
       (λ e. let h = leb-false _ _ e in ap (then_read read) (held_long c part (omega arith)) ∙ sym (judged_long part h))
 
 -- ---- what a call says ended

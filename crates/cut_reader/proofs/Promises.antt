@@ -8,9 +8,10 @@ use native.Mathlib.Omega.{arith}
 use borrow.Author.Tests.{leb-true, leb-false}
 use lib.Dec.{leb}
 use lib.ListN.{length}
+use Rattle.std.specs.Prelude.{Err, Ok}
 use Rattle.laws.specs.Member.{◌∈◌}
 use Rattle.laws.proofs.Tests.{told, cond_yes, cond_no, never}
-use Rattle.refusal.specs.Answer.{Answer, accepted, refused}
+use Rattle.refusal.specs.Answer.{Answer}
 use Rattle.refusal.specs.declared.Refusal.{Refusal}
 use Rattle.refusal.specs.declared.Refusal.TheVariants.{End, TooLong}
 use Rattle.codec.specs.Codec.{Codec, spellings}
@@ -42,27 +43,27 @@ module _ {A : Type 0} (form : Codec A) (rule : A → ℕ) (low : ℕ → Refusal
         let l = faithful.long checksum m a z k in
         told checksum (λ y. let c = cond_yes (plain + 2) plain y in omega arith) (λ n. let c = cond_no (plain + 2) plain n in omega arith)
 
-    accepts : (a : A) → judged read m ≡ accepted a → (rule a ≡ 0) × (m ∈ messages_of form checksum a)
+    accepts : (a : A) → judged read m ≡ Ok a → (rule a ≡ 0) × (m ∈ messages_of form checksum a)
     accepts a e =
         told (leb (length m) cutter_length)
         (λ y. (faithful.exactly checksum m a).0 (sym (judged_fits read m (leb-true _ _ y)) ∙ e))
         (λ n. let k = judged_long read m (leb-false _ _ n) in never (cc))
 
-    has_case : (r : Refusal) → judged read m ≡ refused r → Case r
+    has_case : (r : Refusal) → judged read m ≡ Err r → Case r
     has_case r e =
         told (leb (length m) cutter_length)
         (λ y. let h = leb-true _ _ y in inr (h, (exact.read_when checksum m r).0 (sym (judged_fits read m h) ∙ e)))
         (λ n. let h = leb-false _ _ n in let k = judged_long read m h in inl (h, cc))
 
-    of_case : (r : Refusal) → Case r → judged read m ≡ refused r
-    of_case r (inl (h, e)) = judged_long read m h ∙ ap refused (sym e)
+    of_case : (r : Refusal) → Case r → judged read m ≡ Err r
+    of_case r (inl (h, e)) = judged_long read m h ∙ ap Err (sym e)
     of_case r (inr (h, w)) = judged_fits read m h ∙ (exact.read_when checksum m r).1 w
 
   never_4 : (checksum : Bool) (c : Cutter) (p : List ℕ) (m : Answer (List ℕ)) → length c.bytes ≡ cutter_length → (cut_of c p).said ≡ ended m →
-      then_read (read_of form checksum) m ≡ refused End → ⊥
+      then_read (read_of form checksum) m ≡ Err End → ⊥
   unfolding then_read
-  never_4 checksum c p (accepted m) long s e = ((exact.read_when checksum m End).0 e).1 ((cuts.promised).each_call.ends_lf_cr c p m long s).0
-  never_4 checksum c p (refused r) long s e = let k = only_9 c p r s in never (cc)
+  never_4 checksum c p (Ok m) long s e = ((exact.read_when checksum m End).0 e).1 ((cuts.promised).each_call.ends_lf_cr c p m long s).0
+  never_4 checksum c p (Err r) long s e = let k = only_9 c p r s in never (cc)
 
   reads_cut : ReadsCut form rule plain places
   reads_cut = record {

@@ -8,8 +8,8 @@ use borrow.Author.Tests.{ltb-true, ltb-false, le-leb, eqb-true, eqb-false}
 use lib.Dec.{ltb, eqb}
 use lib.ListN.{length, take, get_or, length-append}
 use lib.Seq.{take-suc, length-take-le}
+use Rattle.std.specs.Prelude.{Ok}
 use Rattle.laws.proofs.Tests.{cond_yes, cond_no, told, and_left, and_right, never}
-use Rattle.refusal.specs.Answer.{accepted}
 use Rattle.frame.specs.Refuses.{Ended}
 use Rattle.cutter.specs.Cutter.{cutter_length, valid_cutter, joined, held_from, after_lf, ends_message, held_message, ended, Cutting, cut_from, cut_of}
 use Rattle.cutter.specs.declared.Cutter.{Cutter}
@@ -31,7 +31,7 @@ module _ (c : Cutter) (h : c.len < cutter_length) (t : after_lf c ≡ true) wher
 
 -- what holds of a message that is handed out
 abbrev Good : Cutting → Type 0
-Good r = (m : List ℕ) → r.said ≡ ended (accepted m) → Ended m × (length m ≤ cutter_length)
+Good r = (m : List ℕ) → r.said ≡ ended (Ok m) → Ended m × (length m ≤ cutter_length)
 
 module _ (c : Cutter) (b : ℕ) (long : length c.bytes ≡ cutter_length) (e : ends_message c b ≡ true) where
   cr : b ≡ 13
@@ -42,7 +42,7 @@ module _ (c : Cutter) (b : ℕ) (long : length c.bytes ≡ cutter_length) (e : e
   unfolding ends_message
   lf = and_right (eqb b 13) _ e
 
-  fits : c.len < cutter_length → (m : List ℕ) → held_message (joined c b) ≡ accepted m → Ended m × (length m ≤ cutter_length)
+  fits : c.len < cutter_length → (m : List ℕ) → held_message (joined c b) ≡ Ok m → Ended m × (length m ≤ cutter_length)
   unfolding held_from
   fits h m f =
       let k = c.len - 1 in
@@ -58,7 +58,7 @@ module _ (c : Cutter) (b : ℕ) (long : length c.bytes ≡ cutter_length) (e : e
       ap (λ (y : ℕ). x ++ y ∷ []) cr ∙ ap (λ (y : List ℕ). y ++ 13 ∷ []) front ∙ append_assoc (take k c.bytes) (10 ∷ []) (13 ∷ []) in
       ((take k c.bytes, is ∙ both), omega arith)
 
-  good : (m : List ℕ) → held_message (joined c b) ≡ accepted m → Ended m × (length m ≤ cutter_length)
+  good : (m : List ℕ) → held_message (joined c b) ≡ Ok m → Ended m × (length m ≤ cutter_length)
   unfolding held_from
   good m f =
       told (ltb c.len cutter_length)
@@ -73,7 +73,7 @@ good_from (b ∷ p) c n long =
     (λ e. subst Good (sym (cond_yes _ _ e)) (λ m f. good c b long e m (cc)))
     (λ e. subst Good (sym (cond_no _ _ e)) (good_from p (joined c b) (n + 1) (joined_long c b long)))
 
-pub ends_lf_cr : (c : Cutter) (p m : List ℕ) → length c.bytes ≡ cutter_length → (cut_of c p).said ≡ ended (accepted m) →
+pub ends_lf_cr : (c : Cutter) (p m : List ℕ) → length c.bytes ≡ cutter_length → (cut_of c p).said ≡ ended (Ok m) →
     Ended m × (length m ≤ cutter_length)
 unfolding cut_of
 ends_lf_cr c p m long =

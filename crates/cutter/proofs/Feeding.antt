@@ -8,8 +8,9 @@ use borrow.Author.Tests.{ltb-true, ltb-false, le-leb, lt-leb, ne_eqb}
 use lib.Dec.{leb, ltb, eqb}
 use lib.ListN.{length, take, drop, get_or, length-append, length-drop}
 use lib.Seq.{get_or-take}
+use Rattle.std.specs.Prelude.{Ok}
 use Rattle.laws.proofs.Tests.{told, cond_yes, cond_no}
-use Rattle.refusal.specs.Answer.{Answer, accepted, unless}
+use Rattle.refusal.specs.Answer.{Answer, unless}
 use Rattle.cutter.specs.Cutter.{cutter_length, after_lf, fresh, valid_cutter, held_from, Said, invalid, nothing, ended, then_read, cut_of}
 use Rattle.cutter.specs.Stream.{last_of, messages_from, messages, tail, judged, judged_all, said_by, Fed, said_to, FedTo}
 use Rattle.cutter.specs.Promises.{Has, Run, Judges}
@@ -40,7 +41,7 @@ module _ (c : Cutter) (p t s : List ℕ) (v : valid_cutter c ≡ true) (e : s �
   next_left = ap (λ (j : ℕ). left_from (cut_of c p).cutter (drop j p ++ t)) (sym go) ∙ (call c p v).leaves t ∙ sym (ap (left_from c) e)
 
 -- what a reader answers of 9 or a message, as judged
-pub read_judged : {A : Type 0} (read : List ℕ → Answer A) (m : List ℕ) → then_read read (judged accepted m) ≡ judged read m
+pub read_judged : {A : Type 0} (read : List ℕ → Answer A) (m : List ℕ) → then_read read (judged Ok m) ≡ judged read m
 unfolding then_read judged unless
 read_judged read m = told (leb (length m) cutter_length) (λ e. rw e) (λ e. rw e)
 
@@ -103,7 +104,7 @@ module _ {A : Type 0} (read : List ℕ → Answer A) where
   read_said nothing ms = refl
   read_said (ended m) ms = refl
 
-  read_all_lem : (ms : List (List ℕ)) → read_all (judged_all accepted ms) ≡ judged_all read ms
+  read_all_lem : (ms : List (List ℕ)) → read_all (judged_all Ok ms) ≡ judged_all read ms
   unfolding read_all judged_all
   read_all_lem [] = refl
   read_all_lem (m ∷ ms) = ap₂ ◌∷◌ (read_judged read m) (read_all_lem ms)
@@ -152,7 +153,7 @@ module _ {N A : Type 0} (read : N → List ℕ → Answer A) where
   named_said n nothing js ms h = h
   named_said n (ended m) js ms h = (n, js, refl, h)
 
-  named_all : (ms : List (List ℕ)) (js : List (N × Answer A)) → Named js (judged_all accepted ms) → Judges read js ms
+  named_all : (ms : List (List ℕ)) (js : List (N × Answer A)) → Named js (judged_all Ok ms) → Judges read js ms
   unfolding Named judged_all
   named_all [] js h = subst (λ (y : List (N × Answer A)). Judges read y []) (sym h) Judges.no_more
   named_all (m ∷ ms) js h =

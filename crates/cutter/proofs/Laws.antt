@@ -9,6 +9,7 @@ use borrow.Author.Tests.{lt-ltb, le-ltb, ne_eqb}
 use lib.Dec.{ltb, eqb}
 use lib.ListN.{length, get_or, drop, set, drop_of_length-le}
 use lib.Seq.{drop-cons}
+use Rattle.std.specs.Prelude.{None, Some}
 use Rattle.laws.proofs.Tests.{cond_yes, cond_no, told}
 use Rattle.cutter.specs.Cutter.{cutter_length, too_many, joined, held_from, end_from, lf_before}
 use Rattle.cutter.specs.Stream.{last_of}
@@ -26,7 +27,7 @@ module _ (c : Cutter) (b : ℕ) where
 -- ---- the scan
 
 module _ (lf : Bool) (s : List ℕ) (i : ℕ) where
-  pub end_here : i < length s → (eqb (get_or s i 0) 13 && lf) ≡ true → end_from lf i (drop i s) ≡ i + 1
+  pub end_here : i < length s → (eqb (get_or s i 0) 13 && lf) ≡ true → end_from lf i (drop i s) ≡ Some (i + 1)
   unfolding end_from
   end_here more e = ap (end_from lf i) (drop-cons s i 0 more) ∙ cond_yes _ _ e
 
@@ -35,7 +36,7 @@ module _ (lf : Bool) (s : List ℕ) (i : ℕ) where
   unfolding end_from
   end_later more e = rw add-one (ap (end_from lf i) (drop-cons s i 0 more) ∙ cond_no _ _ e ∙ rw add-one)
 
-  pub end_nowhere : length s ≤ i → end_from lf i (drop i s) ≡ 0
+  pub end_nowhere : length s ≤ i → end_from lf i (drop i s) ≡ None
   unfolding end_from
   end_nowhere h = ap (end_from lf i) (drop_of_length-le s h)
 

@@ -3,19 +3,20 @@ use Prim.Native.Nat.{ℕ, ◌+◌}
 use mathlib.Core.List.{List, [], ◌∷◌}
 use mathlib.Core.Path.{◌≡◌}
 use lib.Dec.{leb}
+use Rattle.std.specs.Prelude.{Err}
 use Rattle.laws.proofs.Tests.{by, never}
-use Rattle.refusal.specs.Answer.{Answer, refused, unless}
+use Rattle.refusal.specs.Answer.{Answer, unless}
 use Rattle.refusal.specs.declared.Refusal.{Refusal}
 use Rattle.refusal.specs.declared.Refusal.TheVariants.{TooLong}
 use Rattle.cutter.specs.Cutter.{cutter_length, valid_cutter, joined, ends_message, held_message, ended, Cutting, cut_from, cut_of}
 use Rattle.cutter.specs.declared.Cutter.{Cutter}
 
 abbrev Only9 : Cutting → Type 0
-Only9 t = (x : Refusal) → t.said ≡ ended (refused x) → x ≡ TooLong
+Only9 t = (x : Refusal) → t.said ≡ ended (Err x) → x ≡ TooLong
 
-held_9 : (c : Cutter) (x : Refusal) → held_message c ≡ refused x → x ≡ TooLong
+held_9 : (c : Cutter) (x : Refusal) → held_message c ≡ Err x → x ≡ TooLong
 unfolding held_message unless
-held_9 c x = by (λ (a : Answer (List ℕ)). a ≡ refused x → x ≡ TooLong) (leb c.len cutter_length) _ _ (λ _ e. never (cc)) (λ _ e. cc)
+held_9 c x = by (λ (a : Answer (List ℕ)). a ≡ Err x → x ≡ TooLong) (leb c.len cutter_length) _ _ (λ _ e. never (cc)) (λ _ e. cc)
 
 from_9 : (p : List ℕ) (c : Cutter) (n : ℕ) → Only9 (cut_from c n p)
 unfolding cut_from

@@ -8,11 +8,12 @@ use native.Mathlib.Omega.{arith}
 use borrow.Author.Tests.{le-leb, lt-leb, leb-true, leb-false}
 use lib.Dec.{leb}
 use lib.ListN.{length, take, drop}
+use Rattle.std.specs.Prelude.{Ok}
 use Rattle.laws.proofs.OverLaws.{over_fits, over_short}
 use Rattle.laws.proofs.Tests.{told, never, cond_yes, cond_no}
-use Rattle.refusal.specs.Answer.{Answer, accepted, unless}
+use Rattle.refusal.specs.Answer.{Answer, unless}
 use Rattle.frame.specs.Message.{room_for, then_left}
-use Rattle.cutter.specs.Cutter.{cutter_length, zeros, fresh, valid_cutter, held_from, held_message, invalid, nothing, ended, Cutting, cut_of, end_in}
+use Rattle.cutter.specs.Cutter.{cutter_length, zeros, fresh, valid_cutter, held_from, held_message, invalid, nothing, ended, Cutting, cut_of}
 use Rattle.cutter.specs.Cutter.{answer_by, left_by_said, has_ended, then_read, whole_in, cut_answer}
 use Rattle.cutter.specs.Stream.{messages, judged}
 use Rattle.cutter.specs.Promises.{CallAnswers, CallParts, Promised}
@@ -71,7 +72,7 @@ module _ (c : Cutter) (p out : List ℕ) where
         (rw e (rw q (rw (le-leb (length m) (length out) h))), rw e (over_fits out m 0 (omega arith) ∙ ap (λ (j : ℕ). m ++ drop j out) k));
   }
 
-fresh_whole : (m : List ℕ) → held_message (held_from fresh m) ≡ judged accepted m
+fresh_whole : (m : List ℕ) → held_message (held_from fresh m) ≡ judged Ok m
 unfolding judged unless zeros
 fresh_whole m =
     told (leb (length m) cutter_length)
@@ -82,13 +83,14 @@ parts : CallParts
 unfolding zeros
 parts = record {
   zero = refl;
-  some = λ c p long h. (cut_some c p (end_in c p) long refl (λ z. omega arith)).1;
+  some = λ c p e long z. let q = cut_some c p e long z in (q.0, q.2);
   none = λ c p out long z. sym (cut_held c p out long z).answers;
   whole = fresh_whole;
   behind_none = λ x s z. ((lent s x 0).nowhere z).0;
-  behind = λ x s e z h.
+  behind = λ x s e z.
       let k : e - 0 ≡ e = omega arith in
-      ((lent s x 0).somewhere e z h).is ∙ ap (λ (j : ℕ). (x ++ take j s) ∷ messages (drop j s)) k;
+      let q = (lent s x 0).somewhere e z in
+      (q.low, q.is ∙ ap (λ (j : ℕ). (x ++ take j s) ∷ messages (drop j s)) k);
 }
 
 pub promised : Promised

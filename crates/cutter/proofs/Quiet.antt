@@ -1,18 +1,20 @@
 -- A place that no CR stands before: no message ends before it, so the search for the end may begin there. Assumes nothing.
-use Prim.Native.Nat.{ℕ, zero, suc, ◌+◌, ◌≤◌}
+use Prim.Native.Nat.{ℕ, zero, suc, ◌+◌, ◌*◌, ◌≤◌}
 use mathlib.Core.Bool.{Bool, true}
 use mathlib.Core.List.{List, [], ◌∷◌, ◌++◌}
-use mathlib.Core.Path.{◌≡◌, refl, sym, ap, ◌∙◌}
+use mathlib.Core.Path.{◌≡◌, refl, sym, ap, ◌∙◌, subst}
 use native.Mathlib.Nat.{zero-add}
 use native.Mathlib.Numerals.{add-one}
 use native.Mathlib.Omega.{arith}
 use borrow.Author.Tests.{not-true}
 use lib.Dec.{eqb}
-use lib.ListN.{length, get_or, take, drop}
+use lib.ListN.{length, get_or, take, drop, length-drop}
 use lib.Seq.{take-suc, take-nil}
+use Rattle.std.specs.List.{prefix_len}
+use Rattle.std.specs.Simd.{first_chunks}
 use Rattle.laws.specs.Every.{every}
 use Rattle.laws.proofs.EveryLaws.{every_head, every_tail}
-use Rattle.laws.proofs.Tests.{and_both, and_fails}
+use Rattle.laws.proofs.Tests.{and_both, and_fails, told, cond_yes, cond_no}
 use Rattle.cutter.specs.Cutter.{end_from, lf_before, quiet, BehindQuiet}
 use Rattle.cutter.proofs.Laws.{end_later, lf_next}
 
@@ -57,3 +59,22 @@ end_behind lf s (suc j) q =
     ∙ end_later (lf_before lf s j) s j more (sym (and_fails (lf_before lf s j) here))
     ∙ ap (λ (x : Bool). end_from x (j + 1) (drop (j + 1) s)) (sym (lf_next lf s j))
     ∙ ap (λ (k : ℕ). end_from (lf_before lf s k) k (drop k s)) (add-one j)
+
+-- so many blocks in front
+pub quiet_front : (s : List ℕ) (n : ℕ) → n * 8 ≤ length s → BehindQuiet s (prefix_len quiet (first_chunks 8 n s) * 8)
+unfolding every
+quiet_front s zero fits = record { fits = omega arith; before = refl }
+quiet_front s (suc n) fits =
+    let more : n * 8 ≤ length (drop 8 s) = omega (arith, length-drop 8 s) in
+    told (quiet (take 8 s))
+    (λ h.
+    let rest = quiet_front (drop 8 s) n more in
+    let m = prefix_len quiet (first_chunks 8 n (drop 8 s)) in
+    let e : 8 + m * 8 ≡ (1 + m) * 8 = omega arith in
+    let k : prefix_len quiet (first_chunks 8 (suc n) s) ≡ 1 + m = cond_yes _ _ h in
+    let low : m * 8 ≤ length (drop 8 s) = rest.fits in
+    subst (λ (j : ℕ). BehindQuiet s (j * 8)) (sym k)
+    (record { fits = omega (arith, length-drop 8 s); before = ap (λ (i : ℕ). quiet (take i s)) (sym e) ∙ quiet_more s 8 (m * 8) h rest.before }))
+    (λ h.
+    let k : prefix_len quiet (first_chunks 8 (suc n) s) ≡ 0 = cond_no _ _ h in
+    subst (λ (j : ℕ). BehindQuiet s (j * 8)) (sym k) (record { fits = omega arith; before = refl }))

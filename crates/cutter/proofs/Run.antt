@@ -7,8 +7,9 @@ use native.Mathlib.Omega.{arith}
 use borrow.Author.Tests.{le-leb, lt-leb, leb-true, leb-false}
 use lib.Dec.{leb}
 use lib.ListN.{length, take}
+use Rattle.std.specs.Prelude.{Ok}
 use Rattle.laws.proofs.Tests.{cond_yes, cond_no, told}
-use Rattle.refusal.specs.Answer.{Answer, accepted, unless}
+use Rattle.refusal.specs.Answer.{Answer, unless}
 use Rattle.cutter.specs.Cutter.{cutter_length, fresh, joined, held_from, ends_message, held_message}
 use Rattle.cutter.specs.Stream.{pairs, messages_from, tail_from, judged, judged_all}
 use Rattle.cutter.specs.declared.Cutter.{Cutter}
@@ -41,20 +42,20 @@ module _ (c : Cutter) (b : ℕ) (s : List ℕ) where
   left_on e = cond_no _ _ e
 
 -- the cutter has its message, or says that it is too long
-held_judged : (x : List ℕ) (c : Cutter) → Holds x c → held_message c ≡ judged accepted x
+held_judged : (x : List ℕ) (c : Cutter) → Holds x c → held_message c ≡ judged Ok x
 unfolding held_message judged unless
 held_judged x c h =
     told (leb (length x) cutter_length)
     (λ e.
     let k = leb-true _ _ e in
     let n = h.small k in
-    cond_yes _ _ (le-leb c.len cutter_length (omega arith)) ∙ ap accepted (ap (λ (j : ℕ). take j c.bytes) n ∙ h.held k) ∙ sym (cond_yes _ _ e))
+    cond_yes _ _ (le-leb c.len cutter_length (omega arith)) ∙ ap Ok (ap (λ (j : ℕ). take j c.bytes) n ∙ h.held k) ∙ sym (cond_yes _ _ e))
     (λ e.
     let n = h.big (leb-false _ _ e) in
     cond_no _ _ (lt-leb c.len cutter_length (omega arith)) ∙ sym (cond_no _ _ e))
 
 -- the messages that end are those of the input
-pub ended_judged : (s x : List ℕ) (c : Cutter) → Holds x c → ended_from c s ≡ judged_all accepted (messages_from x s)
+pub ended_judged : (s x : List ℕ) (c : Cutter) → Holds x c → ended_from c s ≡ judged_all Ok (messages_from x s)
 unfolding ended_from messages_from judged_all
 ended_judged [] x c h = refl
 ended_judged (b ∷ s) x c h =
@@ -64,8 +65,8 @@ ended_judged (b ∷ s) x c h =
     (λ e.
     cond_yes _ _ (p ∙ e)
     ∙ ap₂ ◌∷◌ (held_judged (x ++ b ∷ []) (joined c b) j) (ended_judged s [] fresh holds_fresh)
-    ∙ sym (ap (judged_all accepted) (cond_yes _ _ e)))
-    (λ e. cond_no _ _ (p ∙ e) ∙ ended_judged s (x ++ b ∷ []) (joined c b) j ∙ sym (ap (judged_all accepted) (cond_no _ _ e)))
+    ∙ sym (ap (judged_all Ok) (cond_yes _ _ e)))
+    (λ e. cond_no _ _ (p ∙ e) ∙ ended_judged s (x ++ b ∷ []) (joined c b) j ∙ sym (ap (judged_all Ok) (cond_no _ _ e)))
 
 -- one byte behind the others
 held_snoc : (c : Cutter) (x : List ℕ) (b : ℕ) → held_from c (x ++ b ∷ []) ≡ joined (held_from c x) b

@@ -5,7 +5,8 @@ use mathlib.Core.List.{List, [], ◌∷◌}
 use mathlib.Core.Path.{◌≡◌, sym, ap, ap₂, ◌∙◌}
 use native.Mathlib.Omega.{arith}
 use lib.ListN.{length, take}
-use Rattle.laws.proofs.Tests.{cond_yes, cond_no, told}
+use Rattle.std.specs.Prelude.{None, Some}
+use Rattle.laws.proofs.Tests.{cond_yes, cond_no, told, never}
 use Rattle.cutter.specs.Cutter.{cutter_length, fresh, joined, held_from, after_lf, ends_message, held_message, Cutting, nothing, ended, cut_from, end_from}
 use Rattle.cutter.specs.declared.Cutter.{Cutter}
 use Rattle.cutter.proofs.Holds.{after_joined, joined_long}
@@ -25,19 +26,19 @@ pub record EndsAt (c : Cutter) (n : ℕ) (p : List ℕ) (e : ℕ) : Type 0 where
   pub is : cut_from c n p ≡ ended_by (held_from c (take (e - n) p)) e
 
 pub record Scanned (c : Cutter) (n : ℕ) (p : List ℕ) : Type 0 where
-  pub nowhere : end_from (after_lf c) n p ≡ 0 → cut_from c n p ≡ goes_on (held_from c p) (n + length p)
-  pub somewhere : (e : ℕ) → end_from (after_lf c) n p ≡ e → 0 < e → EndsAt c n p e
+  pub nowhere : end_from (after_lf c) n p ≡ None → cut_from c n p ≡ goes_on (held_from c p) (n + length p)
+  pub somewhere : (e : ℕ) → end_from (after_lf c) n p ≡ Some e → EndsAt c n p e
 
 module _ (c : Cutter) (n b : ℕ) (p : List ℕ) where
   -- b ends it
   scan_end : ends_message c b ≡ true → Scanned c n (b ∷ p)
   unfolding end_from ends_message cut_from held_from
   scan_end t =
-      let f : end_from (after_lf c) n (b ∷ p) ≡ n + 1 = cond_yes _ _ t in
+      let f : end_from (after_lf c) n (b ∷ p) ≡ Some (n + 1) = cond_yes _ _ t in
       record {
-        nowhere = λ z. absurd (let y = sym f ∙ z in omega arith);
-        somewhere = λ e z h.
-            let y : n + 1 ≡ e = sym f ∙ z in
+        nowhere = λ z. never (cc);
+        somewhere = λ e z.
+            let y : n + 1 ≡ e = cc in
             let k : 1 ≡ e - n = omega arith in
             record {
               low = omega arith;
@@ -55,8 +56,8 @@ module _ (c : Cutter) (n b : ℕ) (p : List ℕ) where
       let g : n + 1 + length p ≡ n + suc (length p) = omega arith in
       record {
         nowhere = λ z. cond_no _ _ t ∙ r.nowhere (sym f ∙ z) ∙ ap (goes_on (held_from (joined c b) p)) g;
-        somewhere = λ e z h.
-            let s = r.somewhere e (sym f ∙ z) h in
+        somewhere = λ e z.
+            let s = r.somewhere e (sym f ∙ z) in
             let low = s.low in
             let fits = s.fits in
             let k : suc (e - (n + 1)) ≡ e - n = omega arith in
@@ -69,7 +70,7 @@ module _ (c : Cutter) (n b : ℕ) (p : List ℕ) where
 
 pub scanned : (p : List ℕ) (c : Cutter) (n : ℕ) → length c.bytes ≡ cutter_length → Scanned c n p
 unfolding end_from cut_from held_from
-scanned [] c n long = record { nowhere = λ z. ap (goes_on c) (omega arith); somewhere = λ e z h. absurd (omega arith) }
+scanned [] c n long = record { nowhere = λ z. ap (goes_on c) (omega arith); somewhere = λ e z. never (cc) }
 scanned (b ∷ p) c n long =
     told (ends_message c b)
     (λ t. scan_end c n b p t)

@@ -1,11 +1,11 @@
 -- What each public function promises: its answer, and what lent memory holds after it.
-use Rattle.std.specs.Prelude.{ℕ, Bool, List, ◌≡◌}
+use Rattle.std.specs.Prelude.{ℕ, Bool, List, ◌≡◌, Option}
 use Rattle.laws.specs.Gives.{Gives}
 use Rattle.cutter.specs.Cutter.{fresh, valid_cutter, held_from, end_from, end_in, hold_of, cut_of, cut_answer, left_by_said, whole_left}
 use Rattle.cutter.specs.declared.Cutter.{Cutter}
 use Rattle.cutter.specs.declared.Cut.{Cut}
 
-abbrev pub NextEnd : List ℕ → Bool → ℕ → Type 0
+abbrev pub NextEnd : List ℕ → Bool → Option ℕ → Type 0
 NextEnd stream lf r = r ≡ end_from lf 0 stream
 
 abbrev pub CutterFresh : Cutter → Type 0
@@ -14,7 +14,7 @@ CutterFresh r = r ≡ fresh
 abbrev pub CutterIsValid : Cutter → Bool → Type 0
 CutterIsValid self r = r ≡ valid_cutter self
 
-abbrev pub CutterEndIn : Cutter → List ℕ → ℕ → Type 0
+abbrev pub CutterEndIn : Cutter → List ℕ → Option ℕ → Type 0
 CutterEndIn self piece r = r ≡ end_in self piece
 
 abbrev pub CutterHeld : Cutter → List ℕ → Cutter → Type 0

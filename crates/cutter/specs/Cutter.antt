@@ -1,12 +1,10 @@
 -- The cutter, by value: where a message ends, what a byte makes of it, and what one call makes of a piece.
-use Rattle.std.specs.Prelude.{ℕ, ◌+◌, ◌-◌, ◌≤◌, Bool, true, false, cond, ◌&&◌, not, List, [], ◌∷◌, ◌≡◌, ltb, leb, eqb, length, replicate, set, get_or, take}
+use Rattle.std.specs.Prelude.{ℕ, ◌+◌, ◌-◌, ◌≤◌, Bool, true, false, cond, ◌&&◌, not, List, [], ◌∷◌, ◌≡◌, ltb, leb, eqb, length, replicate, set, get_or, take, Option, None, Some, Err, Ok}
 use Rattle.laws.specs.Every.{every}
 use Rattle.laws.specs.Gives.{Gives}
-use Rattle.refusal.specs.Answer.{Answer, accepted, refused, unless}
+use Rattle.refusal.specs.Answer.{Answer, unless}
 use Rattle.refusal.specs.declared.Refusal.TheVariants.{TooLong, State}
-use Rattle.frame.specs.Message.{wrote_of, room_for, then_left}
-use Rattle.frame.specs.declared.Wrote.{Wrote}
-use Rattle.frame.specs.declared.Wrote.TheVariants.{Count, Refused}
+use Rattle.frame.specs.Message.{room_for, then_left}
 use Rattle.cutter.specs.declared.Cutter.{Cutter}
 use Rattle.cutter.specs.declared.Cut.{Cut}
 
@@ -58,7 +56,7 @@ ends_message c b = closes (after_lf c) b
 
 -- the message that the cutter has all bytes of: itself, or 9
 unfoldable pub held_message : Cutter → Answer (List ℕ)
-held_message c = unless (leb c.len cutter_length) TooLong (accepted (take c.len c.bytes))
+held_message c = unless (leb c.len cutter_length) TooLong (Ok (take c.len c.bytes))
 
 -- ---- a piece
 
@@ -88,10 +86,10 @@ cut_of c s = cond (valid_cutter c) (cut_from c 0 s) (record { used = 0; said = i
 
 -- ---- the same, looked for first
 
--- where the first message ends: so many bytes with its CR, n of them before s, behind an LF or not; 0 where none ends
-unfoldable pub end_from : Bool → ℕ → List ℕ → ℕ
-end_from lf n [] = 0
-end_from lf n (b ∷ s) = cond (closes lf b) (n + 1) (end_from (eqb b 10) (n + 1) s)
+-- where the first message ends: so many bytes with its CR, n of them before s, behind an LF or not; none where none ends
+unfoldable pub end_from : Bool → ℕ → List ℕ → Option ℕ
+end_from lf n [] = None
+end_from lf n (b ∷ s) = cond (closes lf b) (Some (n + 1)) (end_from (eqb b 10) (n + 1) s)
 
 -- LF is the byte before the place i of s, or before s
 unfoldable pub lf_before : Bool → List ℕ → ℕ → Bool
@@ -106,23 +104,23 @@ pub record BehindQuiet (s : List ℕ) (i : ℕ) : Type 0 where
   pub fits : i ≤ length s
   pub before : quiet (take i s) ≡ true
 
--- how many bytes of the piece a call uses that ends a message; 0 where it ends none
-unfoldable pub end_in : Cutter → List ℕ → ℕ
-end_in c s = cond (valid_cutter c) (end_from (after_lf c) 0 s) 0
+-- how many bytes of the piece a call uses that ends a message; none where it ends none
+unfoldable pub end_in : Cutter → List ℕ → Option ℕ
+end_in c s = cond (valid_cutter c) (end_from (after_lf c) 0 s) None
 
 -- a call that ends none: 16, or the piece is held
 unfoldable pub hold_of : Cutter → List ℕ → Cut
 hold_of c s =
     cond (valid_cutter c)
-    (record { wrote = Count 0; used = length s; ended = false; cutter = held_from c s })
-    (record { wrote = Refused State; used = 0; ended = false; cutter = c })
+    (record { wrote = Ok 0; used = length s; ended = false; cutter = held_from c s })
+    (record { wrote = Err State; used = 0; ended = false; cutter = c })
 
 -- ---- what an entry makes of it
 
 -- what is made of an ended message; 16, or a count of 0 where none ended
 unfoldable pub answer_by : (Answer (List ℕ) → Answer ℕ) → Said → Answer ℕ
-answer_by make invalid = refused State
-answer_by make nothing = accepted 0
+answer_by make invalid = Err State
+answer_by make nothing = Ok 0
 answer_by make (ended m) = make m
 
 -- what is left in lent memory
@@ -138,8 +136,8 @@ has_ended (ended m) = true
 
 -- what the named reader answers: 9 in place of its own
 unfoldable pub then_read : {A : Type 0} → (List ℕ → Answer A) → Answer (List ℕ) → Answer A
-then_read read (accepted m) = read m
-then_read read (refused r) = refused r
+then_read read (Ok m) = read m
+then_read read (Err r) = Err r
 
 -- the message itself: 9, then 2 with its length; else its length
 unfoldable pub whole_in : List ℕ → Answer (List ℕ) → Answer ℕ
@@ -150,10 +148,10 @@ abbrev pub whole_left : Answer (List ℕ) → List ℕ → List ℕ
 whole_left m out = then_left (λ (s : List ℕ). s) m out
 
 -- the message that ends with this part goes to lent memory
-abbrev pub PutsMessage : Cutter → List ℕ → List ℕ → Wrote → List ℕ → Type 0
+abbrev pub PutsMessage : Cutter → List ℕ → List ℕ → Answer ℕ → List ℕ → Type 0
 PutsMessage c part out r after =
     let m = held_message (held_from c part) in
-    Gives (wrote_of (whole_in out m)) (whole_left m out) r after
+    Gives (whole_in out m) (whole_left m out) r after
 
 unfoldable pub cut_answer : Cutting → List ℕ → Cut
-cut_answer t out = record { wrote = wrote_of (answer_by (whole_in out) t.said); used = t.used; ended = has_ended t.said; cutter = t.cutter }
+cut_answer t out = record { wrote = (answer_by (whole_in out) t.said); used = t.used; ended = has_ended t.said; cutter = t.cutter }

@@ -1,10 +1,9 @@
 -- What the cutter promises beside its exact answer: statements only.
-use Rattle.std.specs.Prelude.{ℕ, ◌≤◌, ◌<◌, Bool, true, false, cond, List, [], ◌∷◌, ◌++◌, ◌↔◌, ◌≡◌, eqb, length, replicate, take, drop, get_or}
+use Rattle.std.specs.Prelude.{ℕ, ◌≤◌, ◌<◌, Bool, true, false, cond, List, [], ◌∷◌, ◌++◌, ◌↔◌, ◌≡◌, eqb, length, replicate, take, drop, get_or, None, Some, Err, Ok}
 use Rattle.laws.specs.Flat.{flat}
-use Rattle.refusal.specs.Answer.{Answer, accepted, refused}
+use Rattle.refusal.specs.Answer.{Answer}
 use Rattle.refusal.specs.declared.Refusal.{Refusal}
 use Rattle.refusal.specs.declared.Refusal.TheVariants.{Room, TooLong, State}
-use Rattle.frame.specs.declared.Wrote.TheVariants as wrote
 use Rattle.frame.specs.Refuses.{Ended}
 use Rattle.cutter.specs.Cutter.{cutter_length, fresh, valid_cutter, held_from, held_message, closes, invalid, nothing, ended, cut_of}
 use Rattle.cutter.specs.Cutter.{end_from, end_in, hold_of, left_by_said, whole_left, cut_answer}
@@ -99,29 +98,29 @@ pub record EachCall : Type 0 where
   -- it leaves a cutter that is one
   pub kept_valid : (c : Cutter) (p : List ℕ) → valid_cutter c ≡ true → valid_cutter (cut_of c p).cutter ≡ true
   -- a message handed out ends in LF CR and fits, also from a cutter that was never ours: no reader can refuse it by 4
-  pub ends_lf_cr : (c : Cutter) (p m : List ℕ) → length c.bytes ≡ cutter_length → (cut_of c p).said ≡ ended (accepted m) → Ended m × (length m ≤ cutter_length)
+  pub ends_lf_cr : (c : Cutter) (p m : List ℕ) → length c.bytes ≡ cutter_length → (cut_of c p).said ≡ ended (Ok m) → Ended m × (length m ≤ cutter_length)
 
 -- ---- the answer of `cut`, and what is left in the lent memory
 
 pub record CallAnswers (c : Cutter) (p out : List ℕ) : Type 0 where
   -- 16, used 0, nothing written
   pub refuses : (cut_of c p).said ≡ invalid →
-      (cut_answer (cut_of c p) out ≡ record { wrote = wrote.Refused State; used = 0; ended = false; cutter = c }) × (left_by_said whole_left (cut_of c p).said out ≡ out)
+      (cut_answer (cut_of c p) out ≡ record { wrote = Err State; used = 0; ended = false; cutter = c }) × (left_by_said whole_left (cut_of c p).said out ≡ out)
   -- no message ended: 0, all of the piece used, nothing written
   pub none : (cut_of c p).said ≡ nothing →
-      (cut_answer (cut_of c p) out ≡ record { wrote = wrote.Count 0; used = length p; ended = false; cutter = held_from c p }) ×
+      (cut_answer (cut_of c p) out ≡ record { wrote = Ok 0; used = length p; ended = false; cutter = held_from c p }) ×
       (left_by_said whole_left (cut_of c p).said out ≡ out)
   -- a message that ended and is refused: 9, and nothing written
-  pub too_long : (x : Refusal) → (cut_of c p).said ≡ ended (refused x) →
-      (cut_answer (cut_of c p) out ≡ record { wrote = wrote.Refused TooLong; used = (cut_of c p).used; ended = true; cutter = fresh }) ×
+  pub too_long : (x : Refusal) → (cut_of c p).said ≡ ended (Err x) →
+      (cut_answer (cut_of c p) out ≡ record { wrote = Err TooLong; used = (cut_of c p).used; ended = true; cutter = fresh }) ×
       (left_by_said whole_left (cut_of c p).said out ≡ out)
   -- then 2, with the message's length; it is used up all the same
-  pub no_room : (m : List ℕ) → (cut_of c p).said ≡ ended (accepted m) → length out < length m →
-      (cut_answer (cut_of c p) out ≡ record { wrote = wrote.Refused (Room (length m)); used = (cut_of c p).used; ended = true; cutter = fresh }) ×
+  pub no_room : (m : List ℕ) → (cut_of c p).said ≡ ended (Ok m) → length out < length m →
+      (cut_answer (cut_of c p) out ≡ record { wrote = Err (Room (length m)); used = (cut_of c p).used; ended = true; cutter = fresh }) ×
       (left_by_said whole_left (cut_of c p).said out ≡ out)
   -- else the message stands at the start of the lent memory, the rest as it was
-  pub whole : (m : List ℕ) → (cut_of c p).said ≡ ended (accepted m) → length m ≤ length out →
-      (cut_answer (cut_of c p) out ≡ record { wrote = wrote.Count (length m); used = (cut_of c p).used; ended = true; cutter = fresh }) ×
+  pub whole : (m : List ℕ) → (cut_of c p).said ≡ ended (Ok m) → length m ≤ length out →
+      (cut_answer (cut_of c p) out ≡ record { wrote = Ok (length m); used = (cut_of c p).used; ended = true; cutter = fresh }) ×
       (left_by_said whole_left (cut_of c p).said out ≡ m ++ drop (length m) out)
 
 -- ---- the parts of a call
@@ -130,24 +129,24 @@ pub record CallParts : Type 0 where
   -- all zero when fresh
   pub zero : fresh ≡ record { bytes = replicate 160 0; len = 0 }
   -- where `end_in` finds an end, a call uses so many bytes, and says the message that what is held and they make
-  pub some : (c : Cutter) (p : List ℕ) → length c.bytes ≡ cutter_length → 0 < end_in c p →
-      cut_of c p ≡ record { used = end_in c p; said = ended (held_message (held_from c (take (end_in c p) p))); cutter = fresh }
+  pub some : (c : Cutter) (p : List ℕ) (e : ℕ) → length c.bytes ≡ cutter_length → end_in c p ≡ Some e →
+      (0 < e) × (cut_of c p ≡ record { used = e; said = ended (held_message (held_from c (take e p))); cutter = fresh })
   -- where it finds none, `hold` answers as a call does
-  pub none : (c : Cutter) (p out : List ℕ) → length c.bytes ≡ cutter_length → end_in c p ≡ 0 → cut_answer (cut_of c p) out ≡ hold_of c p
+  pub none : (c : Cutter) (p out : List ℕ) → length c.bytes ≡ cutter_length → end_in c p ≡ None → cut_answer (cut_of c p) out ≡ hold_of c p
   -- what a fresh cutter says of a whole message
-  pub whole : (m : List ℕ) → held_message (held_from fresh m) ≡ judged accepted m
+  pub whole : (m : List ℕ) → held_message (held_from fresh m) ≡ judged Ok m
   -- the next end behind bytes x of a message
-  pub behind_none : (x s : List ℕ) → end_from (eqb (last_of 0 x) 10) 0 s ≡ 0 → messages_from x s ≡ []
-  pub behind : (x s : List ℕ) (e : ℕ) → end_from (eqb (last_of 0 x) 10) 0 s ≡ e → 0 < e → messages_from x s ≡ (x ++ take e s) ∷ messages (drop e s)
+  pub behind_none : (x s : List ℕ) → end_from (eqb (last_of 0 x) 10) 0 s ≡ None → messages_from x s ≡ []
+  pub behind : (x s : List ℕ) (e : ℕ) → end_from (eqb (last_of 0 x) 10) 0 s ≡ Some e → (0 < e) × (messages_from x s ≡ (x ++ take e s) ∷ messages (drop e s))
 
 -- ---- a stream that is lent as a whole
 
 pub record Lent : Type 0 where
   -- no end: no message, all is tail
-  pub none : (s : List ℕ) → end_from false 0 s ≡ 0 → (messages s ≡ []) × (tail s ≡ s)
+  pub none : (s : List ℕ) → end_from false 0 s ≡ None → (messages s ≡ []) × (tail s ≡ s)
   -- the next end is that of the first message; the others are those of what follows
-  pub next : (s : List ℕ) → 0 < end_from false 0 s →
-      (end_from false 0 s ≤ length s) × (messages s ≡ take (end_from false 0 s) s ∷ messages (drop (end_from false 0 s) s)) × (tail s ≡ tail (drop (end_from false 0 s) s))
+  pub next : (s : List ℕ) (e : ℕ) → end_from false 0 s ≡ Some e →
+      (0 < e) × (e ≤ length s) × (messages s ≡ take e s ∷ messages (drop e s)) × (tail s ≡ tail (drop e s))
 
 pub record Promised : Type 1 where
   pub one_list : OneList

@@ -5,7 +5,6 @@ ghost use Rattle.std.specs.Prelude.{◌≤◌, ◌≡◌, length};
 ghost use Rattle.cutter.specs.Cutter.{after_lf, lf_before, quiet, BehindQuiet, PutsMessage};
 ghost use Rattle.cutter.specs.Clauses.{NextEnd, CutterFresh, CutterIsValid, CutterEndIn, CutterHeld, CutterHold, CutterCut};
 
-use frame::Wrote;
 use refusal::Refusal;
 
 // The bytes that a cutter holds, the LF CR counted.
@@ -27,10 +26,10 @@ pub struct Cutter {
 #[derive(Clone, Copy)]
 pub struct Cut {
     // The message's length, 0 where none ended; 16, 9, then 2.
-    pub wrote: Wrote,
+    pub wrote: Result<usize, Refusal>,
     // How many bytes of the piece were taken.
     pub used: usize,
-    // A message ended at the last of them.
+    // A message ended at the last of them. (Beside `wrote`, for of its refusals 16 ends none, and 9 and 2 end one.)
     pub ended: bool,
     // The cutter for what follows.
     pub cutter: Cutter,
@@ -41,10 +40,7 @@ fn is_lf_before(s: &[u8], i: usize, lf: bool) -> bool
     requires { i ≤ length s.now }
     ensures { result ≡ lf_before lf s.now i }
 {
-    if i == 0 {
-        return lf;
-    }
-    s[i - 1] == 10
+    s[..i].last().map_or(lf, |b| *b == 10)
 }
 
 // Whether none of these bytes is CR. Every test is made and none branched on, so that many are made at once.
@@ -52,10 +48,8 @@ fn is_quiet(s: &[u8]) -> bool
     ensures { result ≡ quiet s.now }
 {
     let mut all = true;
-    let mut i = 0;
-    while i < s.len() {
-        all = all & (s[i] != 13);
-        i += 1;
+    for b in s {
+        all &= *b != 13;
     }
     all
 }
@@ -64,31 +58,21 @@ fn is_quiet(s: &[u8]) -> bool
 fn skip_quiet(s: &[u8]) -> usize
     ensures { BehindQuiet s.now result }
 {
-    let mut at = 0;
-    while BLOCK <= s.len() - at {
-        if !is_quiet(&s[at..at + BLOCK]) {
-            return at;
-        }
-        at += BLOCK;
-    }
-    at
+    let (blocks, _) = s.as_chunks::<BLOCK>();
+    blocks.iter().take_while(|block| is_quiet(*block)).count() * BLOCK
 }
 
-// Where the first message ends: so many bytes with its CR, or 0; behind an LF or not. Only a CR asks for the
+// Where the first message ends, if one does: so many bytes with its CR; behind an LF or not. Only a CR asks for the
 // byte before it. Also the next message of a stream that is lent as a whole, which needs no cutter.
-pub fn next_end(stream: &[u8], lf: bool) -> usize
+pub fn next_end(stream: &[u8], lf: bool) -> Option<usize>
     ensures { NextEnd stream.now lf result }
 {
-    let mut i = skip_quiet(stream);
-    while i < stream.len() {
-        if stream[i] == 13 {
-            if is_lf_before(stream, i, lf) {
-                return i + 1;
-            }
+    for i in skip_quiet(stream)..stream.len() {
+        if stream[i] == 13 && is_lf_before(stream, i, lf) {
+            return Some(i + 1);
         }
-        i += 1;
     }
-    0
+    None
 }
 
 impl Cutter {
@@ -123,16 +107,16 @@ impl Cutter {
         self.bytes[CUTTER_LENGTH - 1] == 10
     }
 
-    // How many bytes of the piece belong to the message at hand, where it ends in it; else, and for a count that
-    // is not ours, 0.
-    pub fn end_in(self, piece: &[u8]) -> usize
+    // How many bytes of the piece belong to the message at hand, where it ends in it; it ends in none for a count
+    // that is not ours.
+    pub fn end_in(self, piece: &[u8]) -> Option<usize>
         ensures { CutterEndIn self piece.now result }
     {
         if self.len == 0 {
             return next_end(piece, false);
         }
         if !self.is_valid() {
-            return 0;
+            return None;
         }
         next_end(piece, self.is_after_lf())
     }
@@ -146,16 +130,13 @@ impl Cutter {
             return self;
         }
         let at = self.len;
-        if at <= CUTTER_LENGTH {
-            if n <= CUTTER_LENGTH - at {
-                let mut bytes = self.bytes;
-                let mut i = 0;
-                while i < n {
-                    bytes[at + i] = part[i];
-                    i += 1;
-                }
-                return Cutter { bytes, len: at + n };
+        if at <= CUTTER_LENGTH && n <= CUTTER_LENGTH - at {
+            let mut bytes = self.bytes;
+            // `copy_from_slice` was tried: 0.5 % more instructions for a message in pieces of 16 bytes.
+            for (i, b) in part.iter().enumerate() {
+                bytes[at + i] = *b;
             }
+            return Cutter { bytes, len: at + n };
         }
         let mut bytes = [0; CUTTER_LENGTH];
         bytes[CUTTER_LENGTH - 1] = part[n - 1];
@@ -171,14 +152,14 @@ impl Cutter {
     {
         if !self.is_valid() {
             return Cut {
-                wrote: Wrote::Refused(Refusal::State),
+                wrote: Err(Refusal::State),
                 used: 0,
                 ended: false,
                 cutter: self,
             };
         }
         Cut {
-            wrote: Wrote::Count(0),
+            wrote: Ok(0),
             used: piece.len(),
             ended: false,
             cutter: self.held(piece),
@@ -186,37 +167,30 @@ impl Cutter {
     }
 
     // Puts the message that ends with this part into lent memory: what is held, then the part.
-    fn put_message(self, part: &[u8], out: &mut [u8]) -> Wrote
+    fn put_message(self, part: &[u8], out: &mut [u8]) -> Result<usize, Refusal>
         ensures { PutsMessage self part.now out.old result out.new }
     {
-        let at = self.len;
-        let n = part.len();
-        if CUTTER_LENGTH < at {
-            return Wrote::Refused(Refusal::TooLong);
+        let held = self.held(part);
+        let n = held.len;
+        if CUTTER_LENGTH < n {
+            return Err(Refusal::TooLong);
         }
-        if CUTTER_LENGTH - at < n {
-            return Wrote::Refused(Refusal::TooLong);
+        if out.len() < n {
+            return Err(Refusal::Room(n));
         }
-        if out.len() < at + n {
-            return Wrote::Refused(Refusal::Room(at + n));
-        }
-        let bytes = self.bytes;
-        lent::put_text(out, 0, &bytes[0..at]);
-        lent::put_text(out, at, part);
-        Wrote::Count(at + n)
+        lent::put_text(out, 0, &held.bytes[..n]);
+        Ok(n)
     }
 
     // Takes the piece up to the first end of a message, or all of it; the message goes to lent memory.
     pub fn cut(self, piece: &[u8], out: &mut [u8]) -> Cut
         ensures { CutterCut self piece.now out.old result out.new }
     {
-        let n = self.end_in(piece);
-        if n == 0 {
+        let Some(n) = self.end_in(piece) else {
             return self.hold(piece);
-        }
-        let wrote = self.put_message(&piece[0..n], out);
+        };
         Cut {
-            wrote,
+            wrote: self.put_message(&piece[..n], out),
             used: n,
             ended: true,
             cutter: Cutter::fresh(),

@@ -9,12 +9,12 @@ use lib.Dec.{eqb}
 use lib.IntN.{ℤ, pos}
 use lib.ListN.{length, take, drop, get_or, length-append}
 use lib.Seq.{take_at, drop_at, drop-append-add}
+use Rattle.std.specs.Prelude.{Err, Ok}
 use Rattle.laws.specs.Member.{◌∈◌}
 use Rattle.laws.specs.Over.{over}
 use Rattle.laws.proofs.MemberLaws.{as_member, map_in, in_map}
 use Rattle.laws.proofs.OverLaws.{over_fits, length_over}
 use Rattle.laws.proofs.Tests.{told}
-use Rattle.refusal.specs.Answer.{accepted, refused}
 use Rattle.refusal.specs.declared.Refusal.TheVariants.{Field, Contents}
 use Rattle.sign.specs.Sign.{size}
 use Rattle.codec.specs.Codec.{got, Codec, spellings}
@@ -105,7 +105,7 @@ module _ {A : Type 0} (form : Codec A) (rule : A → ℕ) (of : A → ℤ) (pupi
       let zero : z ≡ pos 0 = cc in
       differ (sym zeros.sent ∙ ap pupil.print (sym zero) ∙ m)
 
-  module _ (checksum : Bool) (m : List ℕ) (r : A) (e : read_of form checksum m ≡ accepted r) where
+  module _ (checksum : Bool) (m : List ℕ) (r : A) (e : read_of form checksum m ≡ Ok r) where
     abbrev z : ℤ
     z = of r
 
@@ -159,14 +159,14 @@ module _ {A : Type 0} (form : Codec A) (rule : A → ℕ) (of : A → ℤ) (pupi
         let contents : take form.width m ≡ put r minus = ap (take form.width) k ∙ take_at (put r minus) (ending checksum (put r minus)) form.width long in
         ap (framed checksum) (p ∙ sym back ∙ ap (λ (s : List ℕ). over s at plus) (sym contents)))
 
-  accepts : (checksum : Bool) (m : List ℕ) (r : A) → (read_of form checksum m ≡ accepted r) ↔ ((rule r ≡ 0) × PlusOrMinus form of at minus checksum r m)
+  accepts : (checksum : Bool) (m : List ℕ) (r : A) → (read_of form checksum m ≡ Ok r) ↔ ((rule r ≡ 0) × PlusOrMinus form of at minus checksum r m)
   accepts checksum m r = (λ e. (sent checksum m r e, read_so checksum m r e), λ h. (exactly form exact checksum m r).1 (same r ∙ h.0, by h.1)) where
     by : PlusOrMinus form of at minus checksum r m → m ∈ messages_of form checksum r
     by (inl k) = inl k
     by (inr (o, k)) = as_member (messages_of form checksum r) k (map_in (framed checksum) (spellings form r) _ (minus_spells r o))
 
   -- field 10 with minus zero stands so in a spelling of a sendable record
-  never_6 : (checksum : Bool) (m : List ℕ) → field_of places 10 m ≡ minus → read_of form checksum m ≢ refused (Contents 10)
+  never_6 : (checksum : Bool) (m : List ℕ) → field_of places 10 m ≡ minus → read_of form checksum m ≢ Err (Contents 10)
   never_6 checksum m f e =
       let q = ((refuses form rule Field w places blames same wide).read_when checksum m (Contents 10)).0 e in
       let b = q.0 in

@@ -3,8 +3,9 @@ use Prim.Native.Nat.{ℕ}
 use mathlib.Core.Bool.{Bool, true, false, ◌&&◌}
 use mathlib.Core.Path.{◌≡◌, refl, sym, subst, ◌∙◌}
 use lib.IntN.{ℤ}
+use Rattle.std.specs.Prelude.{Ok}
 use Rattle.laws.proofs.Tests.{and_left, and_right, never}
-use Rattle.refusal.specs.Answer.{Answer, accepted, unless}
+use Rattle.refusal.specs.Answer.{Answer, unless}
 use Rattle.refusal.specs.declared.Refusal.{Refusal}
 use Rattle.refusal.specs.declared.Refusal.TheVariants.{Field, Setting}
 use Rattle.frame.proofs.Faithful.{faithful}
@@ -26,18 +27,18 @@ use Rattle.demand2.specs.Demand2.{Demand2}
 use Rattle.demand2.proofs.MinusZero.{text_zero, packed_zero}
 use Rattle.demand2.proofs.Units.{units_refuse}
 
-unless_is : {A : Type 0} (ok : Bool) (r : Refusal) (k : Answer A) (a : A) → unless ok r k ≡ accepted a → (ok ≡ true) × (k ≡ accepted a)
+unless_is : {A : Type 0} (ok : Bool) (r : Refusal) (k : Answer A) (a : A) → unless ok r k ≡ Ok a → (ok ≡ true) × (k ≡ Ok a)
 unfolding unless
 unless_is true r k a e = (refl, e)
 unless_is false r k a e = never (cc)
 
 -- what an accepted conversion says of its letters and its number
-told_by_lem : (i : ℕ) (z r : ℤ) (unit wanted : ℕ) → conversion i z unit wanted ≡ accepted r → ((is_unit unit && is_unit wanted) ≡ true) × (number_in unit wanted z ≡ r)
+told_by_lem : (i : ℕ) (z r : ℤ) (unit wanted : ℕ) → conversion i z unit wanted ≡ Ok r → ((is_unit unit && is_unit wanted) ≡ true) × (number_in unit wanted z ≡ r)
 unfolding conversion
 told_by_lem i z r unit wanted e =
-    let p = unless_is (is_unit unit && is_unit wanted) (Field 0) (unless (in_range i z unit) (Field i) (accepted (number_in unit wanted z))) r e in
-    let q = unless_is (in_range i z unit) (Field i) (accepted (number_in unit wanted z)) r p.1 in
-    (p.0, (let f : accepted (number_in unit wanted z) ≡ accepted r = q.1 in cc))
+    let p = unless_is (is_unit unit && is_unit wanted) (Field 0) (unless (in_range i z unit) (Field i) (Ok (number_in unit wanted z))) r e in
+    let q = unless_is (in_range i z unit) (Field i) (Ok (number_in unit wanted z)) r p.1 in
+    (p.0, (let f : Ok (number_in unit wanted z) ≡ Ok r = q.1 in cc))
 
 pub demand2 : Demand2
 demand2 = record {

@@ -6,11 +6,11 @@ use mathlib.Core.Path.{◌≡◌, refl, ap, ◌∙◌}
 use borrow.Author.Tests.{eqb-true, eqb-false, eq-eqb, ne_eqb, leb-true, le-leb}
 use lib.Dec.{eqb, leb}
 use lib.IntN.{ℤ, pos, negsuc}
+use Rattle.std.specs.Prelude.{Err, Ok}
 use Rattle.laws.proofs.Tests.{and_left, and_right, and_both, told, never}
-use Rattle.refusal.specs.Answer.{Answer, accepted, refused, unless}
+use Rattle.refusal.specs.Answer.{Answer, unless}
 use Rattle.refusal.specs.declared.Refusal.{Refusal}
 use Rattle.refusal.specs.declared.Refusal.TheVariants.{Field}
-use Rattle.refusal.specs.declared.Verdict.TheVariants.{Refused}
 use Rattle.units.specs.Units.{is_unit, top_in, is_distance, in_range, number_in, conversion}
 use Rattle.units.specs.Measurement.{measurement_lowest, measurement_verdict}
 use Rattle.units.proofs.Table.{measurement_by_table}
@@ -86,7 +86,7 @@ not_so b e n = told b (λ y. absurd (n (e.0 y))) (λ f. f)
 
 -- ---- the conversion
 
-unless_when : {A : Type 0} (ok : Bool) (x : Refusal) (k : Answer A) (r : Refusal) → unless ok x k ≡ refused r → ((ok ≡ false) × (r ≡ x)) ⊎ ((ok ≡ true) × (k ≡ refused r))
+unless_when : {A : Type 0} (ok : Bool) (x : Refusal) (k : Answer A) (r : Refusal) → unless ok x k ≡ Err r → ((ok ≡ false) × (r ≡ x)) ⊎ ((ok ≡ true) × (k ≡ Err r))
 unfolding unless
 unless_when true x k r e = inr (refl, e)
 unless_when false x k r e = inl (refl, cc)
@@ -95,20 +95,20 @@ module _ (i : ℕ) (z : ℤ) (unit wanted : ℕ) (r : Refusal) where
   range : (in_range i z unit ≡ true) ↔ Convertible i z unit
   range = (range_is i unit z, is_range i unit z)
 
-  converted : conversion i z unit wanted ≡ refused r → ConvertWhen i z unit wanted r
+  converted : conversion i z unit wanted ≡ Err r → ConvertWhen i z unit wanted r
   unfolding conversion
   converted e = by_letters (unless_when (is_unit unit && is_unit wanted) (Field 0) _ r e) where
-    by_range : UnitLetter unit × UnitLetter wanted → ((in_range i z unit ≡ false) × (r ≡ Field i)) ⊎ ((in_range i z unit ≡ true) × (accepted (number_in unit wanted z) ≡ refused r)) →
+    by_range : UnitLetter unit × UnitLetter wanted → ((in_range i z unit ≡ false) × (r ≡ Field i)) ⊎ ((in_range i z unit ≡ true) × (Ok (number_in unit wanted z) ≡ Err r)) →
         ConvertWhen i z unit wanted r
     by_range h (inl n) = inr (h, (fails range n.0, n.1))
-    by_range h (inr y) = let q : accepted (number_in unit wanted z) ≡ refused r = y.1 in never (cc)
+    by_range h (inr y) = let q : Ok (number_in unit wanted z) ≡ Err r = y.1 in never (cc)
 
     by_letters : (((is_unit unit && is_unit wanted) ≡ false) × (r ≡ Field 0)) ⊎
-        (((is_unit unit && is_unit wanted) ≡ true) × (unless (in_range i z unit) (Field i) (accepted (number_in unit wanted z)) ≡ refused r)) → ConvertWhen i z unit wanted r
+        (((is_unit unit && is_unit wanted) ≡ true) × (unless (in_range i z unit) (Field i) (Ok (number_in unit wanted z)) ≡ Err r)) → ConvertWhen i z unit wanted r
     by_letters (inl n) = inl (fails (letters unit wanted) n.0, n.1)
     by_letters (inr y) = by_range ((letters unit wanted).0 y.0) (unless_when (in_range i z unit) (Field i) _ r y.1)
 
-  converts_not : ConvertWhen i z unit wanted r → conversion i z unit wanted ≡ refused r
+  converts_not : ConvertWhen i z unit wanted r → conversion i z unit wanted ≡ Err r
   unfolding conversion unless
   converts_not (inl h) = rw (not_so (is_unit unit && is_unit wanted) (letters unit wanted) h.0, h.1)
   converts_not (inr h) = rw ((letters unit wanted).1 h.0, not_so (in_range i z unit) range h.1.0, h.1.1)
@@ -116,7 +116,7 @@ module _ (i : ℕ) (z : ℤ) (unit wanted : ℕ) (r : Refusal) where
 -- ---- the check of a measurement
 
 module _ (m : Measurement) (r : Refusal) where
-  checked : measurement_verdict m ≡ Refused r → CheckWhen m r
+  checked : measurement_verdict m ≡ Err r → CheckWhen m r
   unfolding measurement_verdict
   checked e =
       told (is_unit m.unit)
@@ -126,7 +126,7 @@ module _ (m : Measurement) (r : Refusal) where
       (λ n. inr ((letter m.unit).0 y, (_, ((measurement_by_table m).first_out _).0 (refl, eqb-false _ _ n), cc (rw (y, n) at e)))))
       (λ y. inl (fails (letter m.unit) y, cc (rw y at e)))
 
-  not_done : CheckWhen m r → measurement_verdict m ≡ Refused r
+  not_done : CheckWhen m r → measurement_verdict m ≡ Err r
   unfolding measurement_verdict
   not_done (inl h) = rw (not_so (is_unit m.unit) (letter m.unit) h.0, h.1)
   not_done (inr (h, (i, out, e))) =

@@ -1,10 +1,8 @@
 -- Demand 2: "Each reply, text record, packed record, checksum and unit conversion is exactly what the Cooke documents and document 01 define. A reader
 -- accepts exactly the messages the writer writes for sendable contents, and gives those contents back." [5] amends it: "From now on readers accept the
 -- writers' messages and these two spellings." Statements only.
-use Rattle.std.specs.Prelude.{ℕ, true, List, [], ◌≡◌, ℤ}
-use Rattle.refusal.specs.Answer.{accepted}
+use Rattle.std.specs.Prelude.{ℕ, true, List, [], ◌≡◌, ℤ, Ok}
 use Rattle.refusal.specs.declared.Refusal.TheVariants.{Field, Setting}
-use Rattle.refusal.specs.declared.Verdict.TheVariants.{Done}
 use Rattle.codec.specs.Codec.{text_ok}
 use Rattle.codec.specs.Ranges.{LowestBy}
 use Rattle.frame.specs.Faithful.{Faithful}
@@ -44,11 +42,11 @@ pub record Demand2 : Type 0 where
   pub packed_refuses : Refuses packed_form record_lowest Field 41 packed_places
   pub fixed_refuses : Refuses fixed_form fixed_lowest Setting 67 fixed_places
   -- "1 unit of 0.1 inch is exactly 2.54 mm, nearest whole number, halves away from zero", in either direction
-  pub converts : (field : ℕ) (z r : ℤ) (unit wanted : ℕ) → conversion field z unit wanted ≡ accepted r → Converts unit wanted z r
+  pub converts : (field : ℕ) (z r : ℤ) (unit wanted : ℕ) → conversion field z unit wanted ≡ Ok r → Converts unit wanted z r
   -- "alike: number unchanged"
-  pub alike : (field : ℕ) (z r : ℤ) (unit : ℕ) → conversion field z unit unit ≡ accepted r → r ≡ z
+  pub alike : (field : ℕ) (z r : ℤ) (unit : ℕ) → conversion field z unit unit ≡ Ok r → r ≡ z
   -- the conversion's 1 and a measurement's, each exactly in its case
   pub units_refuse : UnitsRefuse
   -- "so each measurement is sendable in either unit": an accepted one, with a serial of nine text bytes
-  pub sendable : (m : Measurement) (display : ℕ) (serial : List ℕ) → measurement_verdict m ≡ Done → is_unit display ≡ true →
+  pub sendable : (m : Measurement) (display : ℕ) (serial : List ℕ) → measurement_verdict m ≡ Ok tt → is_unit display ≡ true →
       text_ok 9 serial ≡ true → record_lowest (record_in display m serial) ≡ 0

@@ -1,5 +1,6 @@
 -- The laws of digits, once, over the base, the offset and the width: what is written reads back, and what reads was written.
 -- Assumes nothing.
+use Rattle.std.specs.Prelude.{None, Option, Some}
 use Rattle.std.proofs.Common.{◌≡◌, ℕ, zero, suc, ◌+◌, ◌-◌, ◌*◌, ◌/◌, ◌%◌, ◌^◌, ◌<◌, ◌≤◌, true, ◌&&◌, ltb, leb, List, [], ◌∷◌, ◌++◌, length, sym, refl, ap, ◌∙◌, ap₂, le_trans, mod-lt, mod-eq_of_lt, mul_assoc, mul_comm, suc-add, div-add-mod', zero-add, mul-one, div-one, add-one, arith, pow-add, ltb-true, le-ltb, lt-ltb, le-leb, leb-true}
 use native.Mathlib.Nat.{pow-succ', pow-zero, div-div-eq-div-mul, one-le-pow, mul-add-div_right, mul-add-mod_self_right, add-sub_cancel_left, pow-le-pow_right, pow-le-pow_left}
 use borrow.Author.Tests.{lt-leb}
@@ -8,8 +9,6 @@ use Rattle.laws.proofs.Tests.{and_left, and_right, told, never}
 use Rattle.laws.specs.Every.{every}
 use Rattle.laws.proofs.EveryLaws.{every_head, every_tail}
 use Rattle.digits.specs.Digits.{digits, value, are_digits, is_digit, only, read_digits, read_field, widest}
-use Rattle.digits.specs.declared.Field.{Field}
-use Rattle.digits.specs.declared.Field.TheVariants.{Value, Wrong}
 
 module _ (b off : ℕ) (some : 0 < b) where
   pub length_digits : (w n : ℕ) → length (digits b off w n) ≡ w
@@ -90,26 +89,26 @@ module _ (b off : ℕ) (some : 0 < b) where
       (digits_above (length ds) q v ∙ digits_value ds (every_tail _ d ds h))
 
   -- what is written reads back
-  pub read_digits_lem : (w n top : ℕ) → w ≤ widest → n ≤ top → top < b ^ w → read_field b off top (digits b off w n) ≡ Value n
+  pub read_digits_lem : (w n top : ℕ) → w ≤ widest → n ≤ top → top < b ^ w → read_field b off top (digits b off w n) ≡ Some n
   unfolding read_field read_digits
   read_digits_lem w n top k h t =
       rw (length_digits w n, le-leb w widest k, are_digits_lem w n, value_digits w n (omega arith), le-leb n top h)
 
   -- what reads was written
-  pub digits_read : (s : List ℕ) (n top : ℕ) → read_field b off top s ≡ Value n → (n ≤ top) × (s ≡ digits b off (length s) n)
+  pub digits_read : (s : List ℕ) (n top : ℕ) → read_field b off top s ≡ Some n → (n ≤ top) × (s ≡ digits b off (length s) n)
   unfolding read_field read_digits
   digits_read s n top e =
       told (leb (length s) widest)
       (λ short.
       told (are_digits b off s && leb (value b off s) top)
       (λ good.
-      let v : value b off s ≡ n = (let z : Value (value b off s) ≡ Value n = rw (short, good) at e in cc) in
+      let v : value b off s ≡ n = (let z : Some (value b off s) ≡ Some n = rw (short, good) at e in cc) in
       let h : value b off s ≤ top = leb-true _ _ (and_right (are_digits b off s) (leb (value b off s) top) good) in (
         omega arith,
         sym (digits_value s (and_left (are_digits b off s) (leb (value b off s) top) good)) ∙ ap (digits b off (length s)) v,
       ))
-      (λ wrong. let z : Wrong ≡ Value n = rw (short, wrong) at e in never (cc)))
-      (λ long. let z : Wrong ≡ Value n = rw long at e in never (cc))
+      (λ wrong. let z : None ≡ Some n = rw (short, wrong) at e in never (cc)))
+      (λ long. let z : None ≡ Some n = rw long at e in never (cc))
 
 pub regroup : (v b q p r : ℕ) → v * (b * p) + (q * p + r) ≡ (v * b + q) * p + r
 regroup v b q p r = omega arith
@@ -120,7 +119,7 @@ narrow b w some h k = le_trans (pow-le-pow_left h w) (le_trans (pow-le-pow_right
 
 module _ (b off top : ℕ) where
   -- reading on from v: what a loop that reads from the front has still to find
-  abbrev pub onward : ℕ → List ℕ → Field
+  abbrev pub onward : ℕ → List ℕ → Option ℕ
   onward v ds = only (are_digits b off ds && leb (v * b ^ length ds + value b off ds) top) (v * b ^ length ds + value b off ds)
 
   pub onward_start : (ds : List ℕ) → read_digits b off top ds ≡ onward 0 ds
@@ -136,11 +135,11 @@ module _ (b off top : ℕ) where
       = rw (pow-succ' b (length ds)) (regroup v b (d - off) (b ^ length ds) (value b off ds)) in
       rw (le-leb off d h, lt-ltb (d - off) b k) (ap (λ (x : ℕ). only (are_digits b off ds && leb x top) x) e)
 
-  pub onward_low : (v d : ℕ) (ds : List ℕ) → d < off → onward v (d ∷ ds) ≡ Wrong
+  pub onward_low : (v d : ℕ) (ds : List ℕ) → d < off → onward v (d ∷ ds) ≡ None
   unfolding every
   onward_low v d ds h = rw (lt-leb off d h)
 
-  pub onward_high : (v d : ℕ) (ds : List ℕ) → off ≤ d → b ≤ d - off → onward v (d ∷ ds) ≡ Wrong
+  pub onward_high : (v d : ℕ) (ds : List ℕ) → off ≤ d → b ≤ d - off → onward v (d ∷ ds) ≡ None
   unfolding every
   onward_high v d ds h k = rw (le-leb off d h, le-ltb (d - off) b k)
 

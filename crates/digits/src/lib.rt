@@ -8,13 +8,6 @@ ghost use Rattle.laws.specs.Over.{over};
 ghost use Rattle.digits.specs.Digits.{decimal, read_field};
 ghost use Rattle.digits.specs.Clauses.{PutDecimal, PutGroups, ReadDecimal, ReadGroups};
 
-// What the bytes of a field hold: a number, or what no writer writes.
-#[derive(Clone, Copy)]
-pub enum Field {
-    Value(u32),
-    Wrong,
-}
-
 // No field takes more bytes. Nine decimal digits fit 32 bits, and nine groups fit 64.
 const WIDEST: usize = 9;
 
@@ -88,8 +81,8 @@ struct HighLow {
     low: u32,
 }
 
-// Takes 10^7 away as often as it fits. What is left is below `times` times 10^7, which each turn halves; a u32 is
-// below 430 times 10^7.
+// Takes 10^7 away as often as it fits. What is left is below `times` times 10^7, which each turn halves, so that nothing is
+// counted; a u32 is below 430 times 10^7.
 fn cut(n: u32) -> HighLow
     ensures { (result.high ≡ n / 10 ^ 7) × (result.low ≡ n % 10 ^ 7) }
 {
@@ -117,9 +110,7 @@ fn held(n: u32, width: usize) -> u32
     }
     let parts = cut(n);
     let mut x = 256 * parts.low;
-    let mut zeros = BLOCK;
-    while width < zeros {
-        zeros -= 1;
+    for zeros in (width..BLOCK).rev() {
         x = uncounted(split(x, zeros));
     }
     x
@@ -135,9 +126,7 @@ fn put_block(out: &mut [u8], at: usize, width: usize, n: u32)
     }
     let last = at + (width - 1);
     let mut x = held(n, width);
-    let mut zeros = BLOCK;
-    while 1 < zeros {
-        zeros -= 1;
+    for zeros in (1..BLOCK).rev() {
         if zeros < width {
             let next = split(x, zeros);
             out[last - zeros] = (ZERO + next % 256) as u8;
@@ -150,34 +139,33 @@ fn put_block(out: &mut [u8], at: usize, width: usize, n: u32)
 // ---- digits of either base
 
 // Reads the whole of s as digits of a number that is at most top.
-fn get(s: &[u8], base: u64, off: u64, top: u32) -> Field
+fn get(s: &[u8], base: u64, off: u64, top: u32) -> Option<u32>
     requires { (0 < base) × (base ≤ 64) × (off + base ≤ 256) }
     ensures { result ≡ read_field base off top s.now }
 {
     if WIDEST < s.len() {
-        return Field::Wrong;
+        return None;
     }
     let mut v: u64 = 0;
-    let mut i = 0;
-    while i < s.len() {
-        let d = s[i] as u64;
+    for &byte in s {
+        let d = u64::from(byte);
         if d < off {
-            return Field::Wrong;
+            return None;
         }
         if base <= d - off {
-            return Field::Wrong;
+            return None;
         }
         v = v * base + (d - off);
-        i += 1;
     }
     let most = top as u64;
     if most < v {
-        return Field::Wrong;
+        return None;
     }
-    Field::Value(v as u32)
+    Some(v as u32)
 }
 
 // Writes width decimal digits, with leading zeros: whole blocks from the end on, and what is left of the width.
+// (A `for` over chunks from the end would cut a field of one block too: 163 instructions for four digits, not 112.)
 pub fn put_decimal(out: &mut [u8], at: usize, width: usize, n: u32)
     ensures { PutDecimal out.old at width n out.new }
 {
@@ -202,24 +190,22 @@ pub fn put_groups(out: &mut [u8], at: usize, width: usize, n: u32)
     if !lent::has_room(out.len(), at, width) {
         return;
     }
-    let mut left = width;
     let mut m = n;
-    while 0 < left {
-        left -= 1;
+    for left in (0..width).rev() {
         out[at + left] = (64 + m % 64) as u8;
         m /= 64;
     }
 }
 
 // Reads decimal digits of a number that is at most top.
-pub fn read_decimal(s: &[u8], top: u32) -> Field
+pub fn read_decimal(s: &[u8], top: u32) -> Option<u32>
     ensures { ReadDecimal s.now top result }
 {
     get(s, 10, b'0' as u64, top)
 }
 
 // Reads groups of six bits of a number that is at most top.
-pub fn read_groups(s: &[u8], top: u32) -> Field
+pub fn read_groups(s: &[u8], top: u32) -> Option<u32>
     ensures { ReadGroups s.now top result }
 {
     get(s, 64, 64, top)

@@ -1,37 +1,27 @@
--- Words, stored byte by byte and by halves. Assumes nothing.
-use Prim.Native.Nat.{ℕ, ◌+◌, ◌/◌, ◌%◌, ◌^◌, ◌≤◌, ◌<◌}
-use mathlib.Core.List.{List, [], ◌∷◌, ◌++◌}
-use mathlib.Core.Path.{◌≡◌, refl, sym, ap, ap₂, ◌∙◌}
-use native.Mathlib.Numerals.{add-one, add-two, add-three}
-use native.Mathlib.Omega.{arith}
-use lib.ListN.{length, set}
+-- Words, stored lowest byte first, are their digits written. Assumes nothing.
+use Rattle.std.proofs.Common.{◌≡◌, ℕ, ◌+◌, ◌-◌, ◌%◌, ◌^◌, ◌≤◌, List, ◌∷◌, length, sym, refl, ap, ap₂, ◌∙◌, arith}
+use Rattle.std.proofs.lemmas.Slice.{put_mid-paste}
+use Rattle.std.specs.Int.{w32, w64, to_le_bytes}
+use borrow.Rule.Slice.PartMut.{put_mid}
 use Rattle.laws.specs.Lowest.{lowest_first}
 use Rattle.laws.specs.Over.{over}
-use Rattle.laws.proofs.OverLaws.{sets_over, onto}
+use Rattle.laws.proofs.OverLaws.{paste_over}
 use Rattle.digits.specs.Digits.{decimal}
 use Rattle.digits.proofs.Laws.{digits_below}
 
-four_bytes : (w : ℕ) → w < 4294967296 → lowest_first 4 w ≡ w % 256 ∷ w / 256 % 256 ∷ w / 65536 % 256 ∷ w / 16777216 ∷ []
+pub four_bytes : (w : ℕ) → to_le_bytes w32 w ≡ lowest_first 4 w
 unfolding lowest_first
-four_bytes w h = ap₂ ◌∷◌ refl (ap₂ ◌∷◌ refl (ap₂ ◌∷◌ (omega arith) (ap₂ ◌∷◌ (omega arith) refl)))
+four_bytes w = ap₂ ◌∷◌ refl (ap₂ ◌∷◌ refl (ap₂ ◌∷◌ (omega arith) (ap₂ ◌∷◌ (omega arith) refl)))
 
-pub four_stored : (d : List ℕ) (a w : ℕ) → a + 4 ≤ length d → w < 4294967296 →
-    set (set (set (set d a (w % 256)) (a + 1) (w / 256 % 256)) (a + 2) (w / 65536 % 256)) (a + 3) (w / 16777216) ≡ over d a (lowest_first 4 w)
-four_stored d a w h k =
-    let s = w % 256 ∷ w / 256 % 256 ∷ w / 65536 % 256 ∷ w / 16777216 ∷ [] in
-    rw (add-one, add-two, add-three) (sets_over d s a h) ∙ ap (over d a) (sym (four_bytes w k))
-
-eight_bytes : (w : ℕ) → lowest_first 4 (w % 4294967296) ++ lowest_first 4 (w / 4294967296) ≡ lowest_first 8 w
+pub eight_bytes : (w : ℕ) → to_le_bytes w64 w ≡ lowest_first 8 w
 unfolding lowest_first
 eight_bytes w =
-    ap₂ ◌∷◌ (omega arith) (ap₂ ◌∷◌ (omega arith) (ap₂ ◌∷◌ (omega arith) (ap₂ ◌∷◌ (omega arith)
+    ap₂ ◌∷◌ refl (ap₂ ◌∷◌ refl (ap₂ ◌∷◌ (omega arith) (ap₂ ◌∷◌ (omega arith)
     (ap₂ ◌∷◌ (omega arith) (ap₂ ◌∷◌ (omega arith) (ap₂ ◌∷◌ (omega arith) (ap₂ ◌∷◌ (omega arith) refl)))))))
 
-pub eight_stored : (d : List ℕ) {e f : List ℕ} (a w : ℕ) → e ≡ over d a (lowest_first 4 (w % 4294967296)) → f ≡ over e (a + 4) (lowest_first 4 (w / 4294967296)) →
-    a + 8 ≤ length d → f ≡ over d a (lowest_first 8 w)
-unfolding lowest_first
-eight_stored d a w p q h =
-    onto d (lowest_first 4 (w % 4294967296)) (lowest_first 4 (w / 4294967296)) a (a + 4) p q refl (omega arith) ∙ ap (over d a) (eight_bytes w)
+-- a part that was copied to is one write
+pub copied : (d now s : List ℕ) (a k : ℕ) → now ≡ s → length s ≡ k → a + k ≤ length d → put_mid a (a + k - a) d now ≡ over d a s
+copied d now s a k e h room = put_mid-paste a (a + k - a) d now s (length s) e (omega arith) refl ∙ paste_over d s a (omega arith)
 
 -- a word whose bytes are the lowest k digits of n
 pub word_written : (d : List ℕ) {e : List ℕ} (a k width n w : ℕ) → width ≡ k → e ≡ over d a (lowest_first k w) → lowest_first k w ≡ decimal k (n % 10 ^ k) →

@@ -43,10 +43,7 @@ fn put_four(out: &mut [u8], at: usize, w: u32)
     requires { at + 4 ≤ length out.old }
     ensures { out.new ≡ over out.old at (lowest_first 4 w) }
 {
-    out[at] = (w % 256) as u8;
-    out[at + 1] = (w / 256 % 256) as u8;
-    out[at + 2] = (w / 65536 % 256) as u8;
-    out[at + 3] = (w / 16777216) as u8;
+    out[at..at + 4].copy_from_slice(&w.to_le_bytes());
 }
 
 // Stores those of a word of 64.
@@ -54,8 +51,7 @@ fn put_eight(out: &mut [u8], at: usize, w: u64)
     requires { at + 8 ≤ length out.old }
     ensures { out.new ≡ over out.old at (lowest_first 8 w) }
 {
-    put_four(out, at, (w % 4294967296) as u32);
-    put_four(out, at + 4, (w / 4294967296) as u32);
+    out[at..at + 8].copy_from_slice(&w.to_le_bytes());
 }
 
 // ---- digits of any width
@@ -65,16 +61,16 @@ fn put_pairs(out: &mut [u8], at: usize, width: usize, n: u32)
     requires { at + width ≤ length out.old }
     ensures { out.new ≡ over out.old at (decimal width n) }
 {
-    let mut left = width;
+    let odd = width % 2;
     let mut m = n;
-    while 1 < left {
-        left -= 2;
+    for pair in (0..width / 2).rev() {
+        let left = odd + 2 * pair;
         let two = m % 100;
         out[at + left] = (48 + two / 10) as u8;
         out[at + left + 1] = (48 + two % 10) as u8;
         m /= 100;
     }
-    if left == 1 {
+    if odd == 1 {
         out[at] = (48 + m % 10) as u8;
     }
 }

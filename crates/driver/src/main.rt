@@ -23,7 +23,6 @@ ghost use Rattle.walk.specs.InPlace.{port_in_place};
 
 use line::Line;
 use port::Port;
-use refusal::Verdict;
 use std::fs::File;
 use std::io::{Eprint, ErrorKind, Input, Print, Read, Write};
 use std::rt::{Clock, Env, Files};
@@ -54,7 +53,7 @@ struct Desk {
     open: bool,
 }
 
-// What a turn's slots left.
+// What a turn's slots left: a port in each case.
 #[derive(Clone, Copy)]
 struct Turn {
     port: Port,
@@ -76,24 +75,24 @@ fn received(port: Port, line: Line, byte: u8) -> Held
     ensures { (result.port ≡ port_in_place port line byte) × (result.line ≡ line_after line byte) }
 {
     let updated = collector::lend(line, byte);
-    let kept = updated.line;
     let answer = updated.answer;
     if answer.ended {
-        let ended = answer.line;
-        let taken = port.receive(ended, byte);
-        let next = taken.port;
+        let taken = port.receive(answer.line, byte);
         return Held {
-            port: next,
-            line: kept,
+            port: taken.port,
+            line: updated.line,
         };
     }
-    Held { port, line: kept }
+    Held {
+        port,
+        line: updated.line,
+    }
 }
 
 // A call that failed may be made once more: it would have waited, or a signal came.
 fn is_for_later(error: &io::Error) -> bool {
     let kind = error.kind();
-    (kind == ErrorKind::WouldBlock) | (kind == ErrorKind::Interrupted)
+    kind == ErrorKind::WouldBlock || kind == ErrorKind::Interrupted
 }
 
 // One byte of an input, if there is one.
@@ -122,12 +121,10 @@ fn look_waiting(waiting: &mut Option<impl Read>) -> Seen {
 // Runs slots into a lent buffer and writes the bytes sent.
 fn sent(output: &mut impl Write, port: Port, out: &mut [u8]) -> Turn {
     let filled = fill::fill(port, out);
-    let n = filled.count;
-    let next = filled.port;
-    let full = n == out.len();
-    let written = output.write_all(&out[..n]).is_ok();
+    let full = filled.count == out.len();
+    let written = output.write_all(&out[..filled.count]).is_ok();
     Turn {
-        port: next,
+        port: filled.port,
         full,
         written,
     }
@@ -164,41 +161,35 @@ fn sixteen_slots(rate: u8) -> u64 {
 
 // On a line, after every sixteenth slot that sent, the time of sixteen passes.
 fn paced(clock: &impl Clock, desk: Desk) -> Desk {
-    let mut after = desk;
     if desk.waits {
-        return after;
+        return desk;
     }
-    let since = desk.since;
-    if since < 15 {
-        after.since = since + 1;
-        return after;
+    if desk.since < 15 {
+        return Desk {
+            since: desk.since + 1,
+            ..desk
+        };
     }
-    let lens = desk.lens;
-    let port = lens.port;
-    let source = port.source;
-    let modes = source.modes;
-    pause(clock, sixteen_slots(modes.rate));
-    after.since = 0;
-    after
+    pause(clock, sixteen_slots(desk.lens.port.source.modes.rate));
+    Desk { since: 0, ..desk }
 }
 
 // The desk after a look.
 fn noted(desk: Desk, found: Seen) -> Desk {
-    let mut after = desk;
     match found {
-        Seen::Byte(byte) => {
-            let lens = desk.lens;
-            let next = received(lens.port, lens.line, byte);
-            after.lens = next;
-        }
-        Seen::Nothing => {
-            after.waits = false;
-        }
-        Seen::End => {
-            after.open = false;
-        }
+        Seen::Byte(byte) => Desk {
+            lens: received(desk.lens.port, desk.lens.line, byte),
+            ..desk
+        },
+        Seen::Nothing => Desk {
+            waits: false,
+            ..desk
+        },
+        Seen::End => Desk {
+            open: false,
+            ..desk
+        },
     }
-    after
 }
 
 // A turn: slots, then a look; where nothing is left to send and nothing has come, a look that waits.
@@ -208,13 +199,9 @@ fn take_turn(
     input: &mut impl Read,
     waiting: &mut Option<impl Read>,
 ) -> Desk {
-    let lens = desk.lens;
-    let line = lens.line;
-    let turn = slots(&mut io::writer(rt), lens.port, desk.waits);
-    let port = turn.port;
-    let now = Held { port, line };
+    let turn = slots(&mut io::writer(rt), desk.lens.port, desk.waits);
     let mut after = desk;
-    after.lens = now;
+    after.lens.port = turn.port;
     after.open = turn.written;
     if !turn.written {
         return after;
@@ -262,18 +249,7 @@ fn tell_letter(rt: &impl Eprint) {
 fn asks_for_ports(rt: &impl Env) -> bool {
     let mut word = [0u8; WORD_LENGTH];
     let n = rt.arg(1, &mut word).unwrap_or(0);
-    is_ports(&word[..n])
-}
-
-fn is_ports(word: &[u8]) -> bool {
-    if word.len() != 5 {
-        return false;
-    }
-    (word[0] == b'p')
-        & (word[1] == b'o')
-        & (word[2] == b'r')
-        & (word[3] == b't')
-        & (word[4] == b's')
+    &word[..n] == b"ports".as_slice()
 }
 
 // One port, on standard input and output.
@@ -284,14 +260,14 @@ fn serve(rt: &(impl Input + Print + Eprint + Files + Clock), letter: u8) {
         bench_lens::bench_settings(letter),
         bench_lens::bench_measurement(),
     );
-    let verdict = started.verdict;
-    if let Verdict::Refused(_) = verdict {
+    if started.verdict.is_err() {
         tell_letter(rt);
         return;
     }
-    let port = started.port;
-    let line = started.line;
-    let lens = Held { port, line };
+    let lens = Held {
+        port: started.port,
+        line: started.line,
+    };
     // standard input once more, as a file whose reads wait
     let mut waiting = File::open(rt, "/dev/stdin").ok();
     let desk = Desk {

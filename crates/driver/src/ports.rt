@@ -8,7 +8,7 @@
 // most a tick after it came. A slot whose byte the line does not take is not run: that port's time stands
 // still, nothing of it is lost, and the other goes on. Where an input ends, its port goes on being sent to;
 // where both have ended, the program ends.
-ghost use Rattle.std.specs.Prelude.{◌≤◌, ◌≡◌, length};
+ghost use Rattle.std.specs.Prelude.{IfSome, ◌≤◌, ◌≡◌, length};
 ghost use Rattle.driver.specs.Ports.{box_in_place, Ran};
 ghost use Rattle.collector.specs.Collect.{line_after};
 ghost use Rattle.connectors.specs.Connectors.{side_of};
@@ -17,7 +17,6 @@ use super::descriptor::Descriptor;
 use super::{Seen, is_for_later, look, pause, tell_letter};
 use connectors::{Connectors, Lines};
 use line::Line;
-use refusal::Verdict;
 use std::io;
 use std::io::{Eprint, Input, Print, Read, Write};
 use std::rt::Clock;
@@ -63,52 +62,34 @@ struct Desk {
     external: Plug,
 }
 
-// How many bytes a line took; one that is gone takes no more.
-#[derive(Clone, Copy)]
-struct Took {
-    count: usize,
-    gone: bool,
-}
-
 // A received byte: the port's collector is updated in place, and a line that it ended goes to the box.
 fn received(served: Served, byte: u8) -> Served
     ensures { (result.connectors ≡ box_in_place served.connectors (side_of served.plug.number) served.plug.line byte) × (result.plug.line ≡ line_after served.plug.line byte) }
 {
+    let updated = collector::lend(served.plug.line, byte);
     let mut after = served;
-    let mut plug = served.plug;
-    let line = plug.line;
-    let updated = collector::lend(line, byte);
-    let kept = updated.line;
-    plug.line = kept;
-    after.plug = plug;
+    after.plug.line = updated.line;
     let answer = updated.answer;
     if !answer.ended {
         return after;
     }
-    let ended = answer.line;
-    let connectors = served.connectors;
-    let taken = connectors.receive(plug.number, ended, byte);
-    let next = taken.connectors;
-    after.connectors = next;
+    let taken = served
+        .connectors
+        .receive(served.plug.number, answer.line, byte);
+    after.connectors = taken.connectors;
     after
 }
 
-// Writes bytes as far as the line takes them now.
-fn put(output: &mut impl Write, bytes: &[u8]) -> Took
-    ensures { result.count ≤ length bytes.now }
+// Writes bytes as far as the line takes them now: how many, or none where the line is gone and takes no more.
+fn put(output: &mut impl Write, bytes: &[u8]) -> Option<usize>
+    ensures { IfSome result (λ n. n ≤ length bytes.now) }
 {
     if bytes.len() == 0 {
-        return Took {
-            count: 0,
-            gone: false,
-        };
+        return Some(0);
     }
     match output.write(bytes) {
-        Ok(count) => Took { count, gone: false },
-        Err(error) => Took {
-            count: 0,
-            gone: !is_for_later(&error),
-        },
+        Ok(count) => Some(count),
+        Err(error) => is_for_later(&error).then_some(0),
     }
 }
 
@@ -117,27 +98,25 @@ fn put(output: &mut impl Write, bytes: &[u8]) -> Took
 fn sent(output: &mut impl Write, served: Served, out: &mut [u8]) -> Served
     ensures { Ran served.connectors served.plug.number (length out.old) result.connectors }
 {
-    let mut plug = served.plug;
-    let number = plug.number;
     let before = served.connectors;
-    let filled = before.fill(number, out);
-    let n = filled.count;
-    let took = put(output, &out[..n]);
-    let taken = took.count;
-    if taken == n {
-        let connectors = filled.connectors;
+    let plug = served.plug;
+    let filled = before.fill(plug.number, out);
+    let took = put(output, &out[..filled.count]);
+    let count = took.unwrap_or(0);
+    if count == filled.count {
         return Served {
-            connectors,
+            connectors: filled.connectors,
             plug,
             goes_on: true,
         };
     }
-    let again = before.fill(number, &mut out[..taken]);
-    let connectors = again.connectors;
-    plug.open = plug.open & !took.gone;
+    let again = before.fill(plug.number, &mut out[..count]);
     Served {
-        connectors,
-        plug,
+        connectors: again.connectors,
+        plug: Plug {
+            open: plug.open && took.is_some(),
+            ..plug
+        },
         goes_on: false,
     }
 }
@@ -170,9 +149,7 @@ fn finished(output: &mut impl Write, served: Served, rest: usize) -> Served
 // The port once its input has ended.
 fn closed(served: Served) -> Served {
     let mut after = served;
-    let mut plug = served.plug;
-    plug.open = false;
-    after.plug = plug;
+    after.plug.open = false;
     after
 }
 
@@ -211,13 +188,9 @@ fn slots_a_tick(rate: u8) -> usize
 // The rate number that a port has now.
 fn rate_at(connectors: Connectors, number: u8) -> u8 {
     if number == 0 {
-        let camera = connectors.camera;
-        let modes = camera.modes;
-        return modes.rate;
+        return connectors.camera.modes.rate;
     }
-    let external = connectors.external;
-    let modes = external.modes;
-    modes.rate
+    connectors.external.modes.rate
 }
 
 // A port's turns in a tick.
@@ -251,13 +224,10 @@ fn take_tick<I: Read, O: Write, J: Read, P: Write>(
     let first = take_turns(camera_ends, desk.connectors, desk.camera);
     let second = take_turns(external_ends, first.connectors, desk.external);
     pause(clock, TICK);
-    let connectors = second.connectors;
-    let camera = first.plug;
-    let external = second.plug;
     Desk {
-        connectors,
-        camera,
-        external,
+        connectors: second.connectors,
+        camera: first.plug,
+        external: second.plug,
     }
 }
 
@@ -270,9 +240,7 @@ fn run<I: Read, O: Write, J: Read, P: Write>(
 ) {
     let mut now = desk;
     for _ in 0..u64::MAX {
-        let camera = now.camera;
-        let external = now.external;
-        if !(camera.open | external.open) {
+        if !(now.camera.open || now.external.open) {
             return;
         }
         now = take_tick(clock, now, camera_ends, external_ends);
@@ -293,29 +261,22 @@ pub(crate) fn serve(rt: &(impl Input + Print + Eprint + Clock), letter: u8) {
         measurement,
         measurement,
     );
-    let verdict = started.verdict;
-    if let Verdict::Refused(_) = verdict {
+    if started.verdict.is_err() {
         tell_letter(rt);
         return;
     }
-    let connectors = started.connectors;
-    let lines = started.lines;
-    let camera_line = lines.camera;
-    let external_line = lines.external;
-    let camera = Plug {
-        number: 0,
-        line: camera_line,
-        open: true,
-    };
-    let external = Plug {
-        number: 1,
-        line: external_line,
-        open: true,
-    };
     let desk = Desk {
-        connectors,
-        camera,
-        external,
+        connectors: started.connectors,
+        camera: Plug {
+            number: 0,
+            line: started.lines.camera,
+            open: true,
+        },
+        external: Plug {
+            number: 1,
+            line: started.lines.external,
+            open: true,
+        },
     };
     let mut camera_ends = Ends {
         input: rt.reader(),

@@ -9,9 +9,11 @@ use borrow.Author.Tests.{le-ltb, ne_eqb}
 use lib.Dec.{eqb}
 use lib.ListN.{length, get_or, take, drop, set, length-append}
 use lib.Seq.{drop-cons}
+use Rattle.std.specs.Prelude.{Err, None, Ok, Option, Some}
 use Rattle.laws.specs.Over.{over}
 use Rattle.laws.proofs.OverLaws.{over_fits, over_next, sets_over, length_over}
 use Rattle.laws.proofs.Tests.{cond_yes, cond_no}
+use Rattle.refusal.specs.Answer.{Answer}
 use Rattle.state.specs.declared.Source.{Source}
 use Rattle.state.specs.State.{message_length}
 use Rattle.port.proofs.Promises.{kept_valid}
@@ -19,8 +21,6 @@ use Rattle.port.proofs.State.{under_way_lem}
 use Rattle.port.proofs.Valid.{message_valid, message_low}
 use Rattle.port.specs.declared.Port.{Port}
 use Rattle.port.specs.declared.Slotted.{Slotted}
-use Rattle.port.specs.declared.Sent.{Sent}
-use Rattle.port.specs.declared.Sent.TheVariants.{Byte, Idle, Refused}
 use Rattle.port.specs.Port.{valid_port, moved_if, sent_up_to, send_from, choose_of, slot_of}
 use Rattle.fill.specs.declared.Onward.{Onward}
 use Rattle.fill.specs.Fill.{SlotRun, then_run, run_of, ahead, Sends, Goes}
@@ -32,7 +32,7 @@ pub none_sends : (p : Port) → valid_port p ≡ true → Sends p 0 [] p
 none_sends p v = record { long = refl; valid = v; run = λ m. ap (λ (n : ℕ). run_of n p) (omega arith) }
 
 -- one slot that sends b
-pub one_sends : (q : Port) (s : Slotted) (b : ℕ) → valid_port q ≡ true → s ≡ slot_of q → s.sent ≡ Byte b → Sends q 1 (b ∷ []) s.port
+pub one_sends : (q : Port) (s : Slotted) (b : ℕ) → valid_port q ≡ true → s ≡ slot_of q → s.sent ≡ Ok (Some b) → Sends q 1 (b ∷ []) s.port
 unfolding run_of
 one_sends q s b v e f = record {
   long = refl;
@@ -41,7 +41,7 @@ one_sends q s b v e f = record {
       let one_more : 1 + m ≡ suc m = omega arith in
       ap (λ (n : ℕ). run_of n q) one_more
       ∙ sym (ap (λ (t : Slotted). then_run t.sent t.port (run_of m t.port)) e)
-      ∙ ap (λ (x : Sent). then_run x s.port (run_of m s.port)) f;
+      ∙ ap (λ (x : Answer (Option ℕ)). then_run x s.port (run_of m s.port)) f;
 }
 
 -- some slots, and then some more
@@ -160,10 +160,10 @@ pub record Ends (l₀ : List ℕ) (p t : Port) (n : ℕ) (l : List ℕ) : Type 0
   pub bytes : l ≡ over l₀ 0 (run_of (length l₀) p).bytes
 
 -- a slot that sends nothing ends the run
-quiet : (t : Sent) (q : Port) (r : SlotRun) → ((b : ℕ) → t ≡ Byte b → ⊥) → then_run t q r ≡ record { port = q; bytes = [] }
-quiet (Byte b) q r h = absurd (h b refl)
-quiet Idle q r h = refl
-quiet (Refused n) q r h = refl
+quiet : (t : Answer (Option ℕ)) (q : Port) (r : SlotRun) → ((b : ℕ) → t ≡ Ok (Some b) → ⊥) → then_run t q r ≡ record { port = q; bytes = [] }
+quiet (Ok (Some b)) q r h = absurd (h b refl)
+quiet (Ok None) q r h = refl
+quiet (Err n) q r h = refl
 
 module _ {l₀ : List ℕ} {p : Port} {l : List ℕ} {q : Port} {i : ℕ} (a : At l₀ p l q i) where
   -- more slots are run, and what they send is written behind
@@ -220,7 +220,7 @@ module _ {l₀ : List ℕ} {p : Port} {l : List ℕ} {q : Port} {i : ℕ} (a : A
       ends q (ap (λ (k : ℕ). run_of k q) z)
 
   -- a slot sends nothing
-  pub stops : i < length l → (s : Slotted) → s ≡ slot_of q → ((b : ℕ) → s.sent ≡ Byte b → ⊥) → Ends l₀ p s.port i l
+  pub stops : i < length l → (s : Slotted) → s ≡ slot_of q → ((b : ℕ) → s.sent ≡ Ok (Some b) → ⊥) → Ends l₀ p s.port i l
   unfolding run_of
   stops h s e k =
       let m = as_long_lem a in
@@ -229,3 +229,21 @@ module _ {l₀ : List ℕ} {p : Port} {l : List ℕ} {q : Port} {i : ℕ} (a : A
       (ap (λ (j : ℕ). run_of j q) n
       ∙ sym (ap (λ (t : Slotted). then_run t.sent t.port (run_of (length l₀ - (i + 1)) t.port)) e)
       ∙ quiet s.sent s.port _ k)
+
+-- the slots before the loop: those of the message under way
+pub before_loop : {l after : List ℕ} {p : Port} {r : Onward} → valid_port p ≡ true → Goes p l 0 r after → Head l p after r.port r.count
+before_loop {l} {after} {p} {r} v g =
+    let all : 0 + r.count ≡ r.count = omega arith in
+    subst (λ (n : ℕ). Head l p after r.port n) all (at_head (begins l p v) g)
+
+-- a turn of it: the slot of the rules sends a byte, which is stored,
+pub byte_stored : {l₀ l : List ℕ} {p q : Port} {i b : ℕ} {s : Slotted} →
+    Head l₀ p l q i → i < length l → s ≡ choose_of q → s.sent ≡ Ok (Some b) → At l₀ p (set l i b) s.port (i + 1)
+byte_stored {q = q} {b = b} {s = s} h t e f =
+    let v = h.so_far.sends.valid in
+    stored h.so_far (one_sends q s b v (e ∙ chooses q v (h.ended t)) f) t
+
+-- or none, which ends the run
+pub idle_stops : {l₀ l : List ℕ} {p q : Port} {i : ℕ} {s : Slotted} →
+    Head l₀ p l q i → i < length l → s ≡ choose_of q → ((b : ℕ) → s.sent ≡ Ok (Some b) → ⊥) → Ends l₀ p s.port i l
+idle_stops {q = q} {s = s} h t e k = stops h.so_far t s (e ∙ chooses q h.so_far.sends.valid (h.ended t)) k

@@ -1,11 +1,9 @@
 -- "slots run until it is full or one is idle, and the number of bytes written comes back equal to the sending slots run; bytes past it stay."
-use Rattle.std.specs.Prelude.{ℕ, zero, suc, ◌+◌, ◌≤◌, ◌<◌, true, cond, List, [], ◌∷◌, ◌++◌, ◌≡◌, ltb, length}
+use Rattle.std.specs.Prelude.{ℕ, zero, suc, ◌+◌, ◌≤◌, ◌<◌, true, cond, List, [], ◌∷◌, ◌++◌, ◌≡◌, length, Option, None, Some, Ok, Err}
 use Rattle.laws.specs.Over.{over}
+use Rattle.refusal.specs.Answer.{Answer}
 use Rattle.refusal.specs.declared.Refusal.TheVariants as refusal
-use Rattle.refusal.specs.declared.Verdict.TheVariants.{Done, Refused}
 use Rattle.port.specs.declared.Port.{Port}
-use Rattle.port.specs.declared.Sent.{Sent}
-use Rattle.port.specs.declared.Sent.TheVariants as sent
 use Rattle.port.specs.Port.{valid_port, slot_of}
 use Rattle.fill.specs.declared.Onward.{Onward}
 use Rattle.fill.specs.declared.Filled.{Filled}
@@ -16,18 +14,15 @@ pub record SlotRun : Type 0 where
   pub bytes : List ℕ
 
 -- a byte goes before what is sent after it; a slot that sends nothing ends the run
-abbrev pub then_run : Sent → Port → SlotRun → SlotRun
-then_run (sent.Byte b) q r = record { port = r.port; bytes = b ∷ r.bytes }
-then_run sent.Idle q r = record { port = q; bytes = [] }
-then_run (sent.Refused x) q r = record { port = q; bytes = [] }
+abbrev pub then_run : Answer (Option ℕ) → Port → SlotRun → SlotRun
+then_run (Ok (Some b)) q r = record { port = r.port; bytes = b ∷ r.bytes }
+then_run (Ok None) q r = record { port = q; bytes = [] }
+then_run (Err x) q r = record { port = q; bytes = [] }
 
 -- at most n slots
 unfoldable pub run_of : ℕ → Port → SlotRun
 run_of zero p = record { port = p; bytes = [] }
 run_of (suc n) p = then_run (slot_of p).sent (slot_of p).port (run_of n (slot_of p).port)
-
-abbrev pub least_of : ℕ → ℕ → ℕ
-least_of a b = cond (ltb a b) a b
 
 -- bytes before what a run sends
 abbrev pub ahead : List ℕ → SlotRun → SlotRun
@@ -52,8 +47,8 @@ pub record Goes (p : Port) (out : List ℕ) (from : ℕ) (r : Onward) (after : L
 unfoldable pub fill_of : Port → ℕ → Filled
 fill_of p n =
     cond (valid_port p)
-    (record { verdict = Done; count = length (run_of n p).bytes; port = (run_of n p).port })
-    (record { verdict = Refused refusal.State; count = 0; port = p })
+    (record { verdict = Ok tt; count = length (run_of n p).bytes; port = (run_of n p).port })
+    (record { verdict = Err refusal.State; count = 0; port = p })
 
 unfoldable pub fill_leaves : Port → List ℕ → List ℕ
 fill_leaves p out = cond (valid_port p) (over out 0 (run_of (length out) p).bytes) out

@@ -3,15 +3,15 @@
 
 ghost use Rattle.std.specs.Prelude.{◌≡◌, true, ◌≤◌, length};
 ghost use Rattle.port.specs.Port.{valid_port};
-ghost use Rattle.fill.specs.Fill.{Goes, least_of};
+ghost use Rattle.fill.specs.Fill.{Goes};
 ghost use Rattle.fill.specs.Clauses.{Fill};
 
-use port::{Port, Sent};
-use refusal::{Refusal, Verdict};
+use port::Port;
+use refusal::Refusal;
 
 #[derive(Clone, Copy)]
 pub struct Filled {
-    pub verdict: Verdict,
+    pub verdict: Result<(), Refusal>,
     // the bytes written, a byte for each sending slot that was run
     pub count: usize,
     pub port: Port,
@@ -24,29 +24,18 @@ struct Onward {
     port: Port,
 }
 
-fn least(a: usize, b: usize) -> usize
-    ensures { result ≡ least_of a b }
-{
-    if a < b {
-        return a;
-    }
-    b
-}
-
 // The rest of the message under way leaves, a byte a slot, as far as there is room from a place on.
 fn go_on(port: Port, out: &mut [u8], from: usize) -> Onward
     requires { (valid_port port ≡ true) × (from ≤ length out.old) }
     ensures { Goes port out.old from result out.new }
 {
-    let message = port.message;
-    let at = message.at;
-    let count = least(message.len - at, out.len() - from);
+    let at = port.message.at;
+    let count = (port.message.len - at).min(out.len() - from);
     if count == 0 {
         return Onward { count: 0, port };
     }
-    let bytes = message.bytes;
     let end = at + count;
-    lent::put_text(out, from, &bytes[at..end]);
+    lent::put_text(out, from, &port.message.bytes[at..end]);
     Onward {
         count,
         port: port::sent_up_to(port, end),
@@ -60,7 +49,7 @@ pub fn fill(port: Port, out: &mut [u8]) -> Filled
 {
     if !port.is_valid() {
         return Filled {
-            verdict: Verdict::Refused(Refusal::State),
+            verdict: Err(Refusal::State),
             count: 0,
             port,
         };
@@ -68,28 +57,24 @@ pub fn fill(port: Port, out: &mut [u8]) -> Filled
     let under_way = go_on(port, out, 0);
     let mut q = under_way.port;
     let mut i = under_way.count;
+    // Steps of a message's length, so no `for`.
     while i < out.len() {
-        let s = port::choose(q);
-        let sent = s.sent;
-        q = s.port;
-        match sent {
-            Sent::Byte(b) => {
-                out[i] = b;
-                let onward = go_on(q, out, i + 1);
-                q = onward.port;
-                i = i + 1 + onward.count;
-            }
-            _ => {
-                return Filled {
-                    verdict: Verdict::Done,
-                    count: i,
-                    port: q,
-                };
-            }
-        }
+        let slotted = port::choose(q);
+        q = slotted.port;
+        let Ok(Some(b)) = slotted.sent else {
+            return Filled {
+                verdict: Ok(()),
+                count: i,
+                port: q,
+            };
+        };
+        out[i] = b;
+        let onward = go_on(q, out, i + 1);
+        q = onward.port;
+        i = i + 1 + onward.count;
     }
     Filled {
-        verdict: Verdict::Done,
+        verdict: Ok(()),
         count: i,
         port: q,
     }

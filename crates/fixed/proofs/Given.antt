@@ -5,7 +5,7 @@ use mathlib.Core.Path.{◌≡◌}
 use lib.ListN.{length}
 use Rattle.codec.proofs.Texts.{text_long, filled_whole, filled_ok}
 use Rattle.codec.proofs.Exact.{first_zero, holds}
-use Rattle.fixed.specs.Fixed.{lens_in, lens_lowest, fixed_lowest, fixed_of, fixed_filled}
+use Rattle.fixed.specs.Fixed.{lens_lowest, fixed_lowest, fixed_of, fixed_filled}
 use Rattle.fixed.specs.declared.Fixed.{Fixed}
 use Rattle.fixed.specs.declared.Lens.{Lens}
 
@@ -20,7 +20,7 @@ unfolding fixed_lowest
 items_long f e =
     let s = first_zero _ _ e in
     let o = first_zero _ _ s.1 in
-    let v = first_zero (lens_lowest (lens_in f)) _ o.1 in
+    let v = first_zero (lens_lowest f.lens) _ o.1 in
     record {
       nine = text_long 9 f.serial (holds _ 0 s.0);
       thirty_one_lem = text_long 31 f.owner (holds _ 1 o.0);

@@ -3,22 +3,15 @@ use Prim.Native.Nat.{ℕ}
 use mathlib.Core.Bool.{Bool}
 use mathlib.Core.List.{List}
 use mathlib.Core.Path.{◌≡◌}
+use Rattle.std.specs.Prelude.{Option}
 use Rattle.laws.proofs.OneAnswer.{one_answer}
-use Rattle.refusal.specs.declared.Refusal.{Refusal}
-use Rattle.fixed.specs.Clauses.{AcceptedFixed, NoFixed, RefusedFixed, IsKind, IsLetter, LowestItem, LowestSetting, AreSettings, FixedFrom}
+use Rattle.fixed.specs.Clauses.{NoFixed, IsKind, IsLetter, LowestItem, LowestSetting, AreSettings, FixedFrom}
 use Rattle.fixed.specs.declared.Fixed.{Fixed}
-use Rattle.fixed.specs.declared.FixedRead.{FixedRead}
 use Rattle.fixed.specs.declared.Lens.{Lens}
 use Rattle.fixed.specs.declared.Settings.{Settings}
 
-pub one_accepted_fixed : (f : Fixed) {r r' : FixedRead} → AcceptedFixed f r → AcceptedFixed f r' → r ≡ r'
-one_accepted_fixed f = one_answer
-
 pub one_no_fixed : {r r' : Fixed} → NoFixed r → NoFixed r' → r ≡ r'
 one_no_fixed = one_answer
-
-pub one_refused_fixed : (r : Refusal) {a a' : FixedRead} → RefusedFixed r a → RefusedFixed r a' → a ≡ a'
-one_refused_fixed r = one_answer
 
 pub one_is_kind : (b : ℕ) {r r' : Bool} → IsKind b r → IsKind b r' → r ≡ r'
 one_is_kind b = one_answer
@@ -26,10 +19,10 @@ one_is_kind b = one_answer
 pub one_is_letter : (b : ℕ) {r r' : Bool} → IsLetter b r → IsLetter b r' → r ≡ r'
 one_is_letter b = one_answer
 
-pub one_lowest_item : (f : Fixed) {i i' : ℕ} → LowestItem f i → LowestItem f i' → i ≡ i'
+pub one_lowest_item : (f : Fixed) {i i' : Option ℕ} → LowestItem f i → LowestItem f i' → i ≡ i'
 one_lowest_item f = one_answer
 
-pub one_lowest_setting : (s : Settings) {i i' : ℕ} → LowestSetting s i → LowestSetting s i' → i ≡ i'
+pub one_lowest_setting : (s : Settings) {i i' : Option ℕ} → LowestSetting s i → LowestSetting s i' → i ≡ i'
 one_lowest_setting s = one_answer
 
 pub one_are_settings : (s : Settings) {r r' : Bool} → AreSettings s r → AreSettings s r' → r ≡ r'

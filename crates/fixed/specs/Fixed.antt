@@ -1,13 +1,10 @@
 -- What may be set: document 01's items and their ranges. The answer is the lowest item out of range, 0 where there is none.
 use Rattle.std.specs.Prelude.{ℕ, Bool, ◌&&◌, ◌||◌, List, leb, eqb, length, replicate}
 use Rattle.laws.specs.Every.{every}
-use Rattle.refusal.specs.Answer.{Answer, accepted, refused}
-use Rattle.refusal.specs.declared.Verdict.TheVariants.{Done, Refused}
 use Rattle.codec.specs.Codec.{failing, first, text_ok, filled}
 use Rattle.fixed.specs.declared.Fixed.{Fixed}
 use Rattle.fixed.specs.declared.Lens.{Lens}
 use Rattle.fixed.specs.declared.Settings.{Settings}
-use Rattle.fixed.specs.declared.FixedRead.{FixedRead}
 
 -- P or Z
 unfoldable pub kind_ok : ℕ → Bool
@@ -30,15 +27,12 @@ lens_lowest l =
     (first (failing (letter_ok l.letter) 6)
     (failing (leb l.transmission 99) 7))))
 
-abbrev pub lens_in : Fixed → Lens
-lens_in f = record { kind = f.kind; focal = f.focal; maximum = f.maximum; letter = f.letter; transmission = f.transmission }
-
 -- items 1 to 8
 unfoldable pub fixed_lowest : Fixed → ℕ
 fixed_lowest f =
     first (failing (text_ok 9 f.serial) 1)
     (first (failing (text_ok 31 f.owner) 2)
-    (first (lens_lowest (lens_in f))
+    (first (lens_lowest f.lens)
     (failing (text_ok 4 f.version) 8)))
 
 -- items 1 to 11
@@ -51,35 +45,18 @@ settings_lowest s =
 
 -- the items put together
 abbrev pub fixed_of : List ℕ → List ℕ → Lens → List ℕ → Fixed
-fixed_of serial owner l version = record {
-  serial = serial;
-  owner = owner;
-  kind = l.kind;
-  focal = l.focal;
-  maximum = l.maximum;
-  letter = l.letter;
-  transmission = l.transmission;
-  version = version;
-}
+fixed_of serial owner l version = record { serial = serial; owner = owner; lens = l; version = version }
 
 -- the items put together, each text as long as its item: one of another length is left as zeros
 abbrev pub fixed_filled : List ℕ → List ℕ → Lens → List ℕ → Fixed
 fixed_filled serial owner l version = fixed_of (filled 9 serial) (filled 31 owner) l (filled 4 version)
 
--- ---- what hands fixed data back: the items, or a refusal beside items of zeros
+-- ---- zeros
 
 abbrev pub no_fixed : Fixed
 no_fixed = record {
   serial = replicate 9 0;
   owner = replicate 31 0;
-  kind = 0;
-  focal = 0;
-  maximum = 0;
-  letter = 0;
-  transmission = 0;
+  lens = record { kind = 0; focal = 0; maximum = 0; letter = 0; transmission = 0 };
   version = replicate 4 0;
 }
-
-abbrev pub fixed_read : Answer Fixed → FixedRead
-fixed_read (accepted f) = record { verdict = Done; contents = f }
-fixed_read (refused x) = record { verdict = Refused x; contents = no_fixed }

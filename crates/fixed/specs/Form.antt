@@ -1,7 +1,7 @@
 -- The contents of the N message: a table of the items in order, each behind its tag. Letters stand as their bytes: 78 is N.
 use Rattle.std.specs.Prelude.{ℕ, List}
 use Rattle.codec.specs.Codec.{Codec, number, text, letter, tagged, ◌⊗◌, via_iso}
-use Rattle.fixed.specs.Fixed.{kind_ok, letter_ok, lens_in, fixed_of}
+use Rattle.fixed.specs.Fixed.{kind_ok, letter_ok, fixed_of}
 use Rattle.fixed.specs.declared.Fixed.{Fixed}
 use Rattle.fixed.specs.declared.Lens.{Lens}
 
@@ -43,7 +43,7 @@ abbrev pub of_parts : Parts → Fixed
 of_parts p = fixed_of p.0 p.1.0 p.1.1.0 p.1.1.1
 
 abbrev pub parts_of : Fixed → Parts
-parts_of f = (f.serial, (f.owner, (lens_in f, f.version)))
+parts_of f = (f.serial, (f.owner, (f.lens, f.version)))
 
 -- how many bytes the contents of the N message take
 abbrev pub fixed_length : ℕ

@@ -9,5 +9,5 @@ abbrev pub ItemByItem : Type 0
 ItemByItem =
     (f : Fixed) →
     fixed_form.print f ≡
-    78 ∷ 83 ∷ (f.serial ++ 79 ∷ (f.owner ++ 76 ∷ f.kind ∷ 78 ∷ (decimal 3 f.focal ++ 77 ∷ (decimal 3 f.maximum ++
-    85 ∷ f.letter ∷ 84 ∷ (decimal 2 f.transmission ++ 32 ∷ 32 ∷ 66 ∷ f.version)))))
+    78 ∷ 83 ∷ (f.serial ++ 79 ∷ (f.owner ++ 76 ∷ f.lens.kind ∷ 78 ∷ (decimal 3 f.lens.focal ++ 77 ∷ (decimal 3 f.lens.maximum ++
+    85 ∷ f.lens.letter ∷ 84 ∷ (decimal 2 f.lens.transmission ++ 32 ∷ 32 ∷ 66 ∷ f.version)))))

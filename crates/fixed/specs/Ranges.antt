@@ -11,11 +11,11 @@ abbrev pub fixed_ranges : Fixed → Ranges
 fixed_ranges f =
     (1, text_ok 9 f.serial)
     ∷ (2, text_ok 31 f.owner)
-    ∷ (3, eqb f.kind 80 || eqb f.kind 90)
-    ∷ (4, leb f.focal 999)
-    ∷ (5, leb f.maximum 999)
-    ∷ (6, eqb f.letter 73 || eqb f.letter 77 || eqb f.letter 66 || eqb f.letter 98)
-    ∷ (7, leb f.transmission 99)
+    ∷ (3, eqb f.lens.kind 80 || eqb f.lens.kind 90)
+    ∷ (4, leb f.lens.focal 999)
+    ∷ (5, leb f.lens.maximum 999)
+    ∷ (6, eqb f.lens.letter 73 || eqb f.lens.letter 77 || eqb f.lens.letter 66 || eqb f.lens.letter 98)
+    ∷ (7, leb f.lens.transmission 99)
     ∷ (8, text_ok 4 f.version)
     ∷ []
 

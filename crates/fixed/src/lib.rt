@@ -2,22 +2,16 @@
 #![tactic(auto)]
 
 ghost use Rattle.std.specs.Prelude.{◌≡◌, eqb};
-ghost use Rattle.codec.specs.Codec.{text_ok};
+ghost use Rattle.codec.specs.Codec.{lowest_named, text_ok};
 ghost use Rattle.fixed.specs.Fixed.{blur_ok, lens_lowest, fixed_lowest};
-ghost use Rattle.fixed.specs.Clauses.{AcceptedFixed, NoFixed, RefusedFixed, IsKind, IsLetter, LowestItem, LowestSetting, AreSettings, FixedFrom};
-
-use refusal::{Refusal, Verdict};
+ghost use Rattle.fixed.specs.Clauses.{NoFixed, IsKind, IsLetter, LowestItem, LowestSetting, AreSettings, FixedFrom};
 
 // How many bytes the contents of the N message take.
 pub const FIXED_LENGTH: usize = 65;
 
-// Items 1 to 8: what the N message carries.
+// Items 3 to 7: what is no text. (Kind and letter are bytes, since any other byte is refused by 8: lowest_item.)
 #[derive(Clone, Copy)]
-pub struct Fixed {
-    // 1
-    pub serial: [u8; 9],
-    // 2
-    pub owner: [u8; 31],
+pub struct Lens {
     // 3: the lens type, P or Z
     pub kind: u8,
     // 4: the focal length
@@ -28,18 +22,19 @@ pub struct Fixed {
     pub letter: u8,
     // 7
     pub transmission: u32,
-    // 8
-    pub version: [u8; 4],
 }
 
-// Items 3 to 7: what is no text.
+// Items 1 to 8: what the N message carries.
 #[derive(Clone, Copy)]
-pub struct Lens {
-    pub kind: u8,
-    pub focal: u32,
-    pub maximum: u32,
-    pub letter: u8,
-    pub transmission: u32,
+pub struct Fixed {
+    // 1
+    pub serial: [u8; 9],
+    // 2
+    pub owner: [u8; 31],
+    // 3 to 7
+    pub lens: Lens,
+    // 8
+    pub version: [u8; 4],
 }
 
 // Items 1 to 11.
@@ -54,46 +49,22 @@ pub struct Settings {
     pub blur: [u16; 32],
 }
 
-// What hands fixed data back: done, or a refusal, and then the items are zero.
-#[derive(Clone, Copy)]
-pub struct FixedRead {
-    pub verdict: Verdict,
-    pub contents: Fixed,
-}
-
-// Fixed data handed back.
-pub fn accepted_fixed(f: Fixed) -> FixedRead
-    ensures { AcceptedFixed f result }
-{
-    FixedRead {
-        verdict: Verdict::Done,
-        contents: f,
-    }
-}
-
 // Fixed data of zeros.
 pub fn no_fixed() -> Fixed
     ensures { NoFixed result }
 {
-    Fixed {
-        serial: [0; 9],
-        owner: [0; 31],
+    let lens = Lens {
         kind: 0,
         focal: 0,
         maximum: 0,
         letter: 0,
         transmission: 0,
+    };
+    Fixed {
+        serial: [0; 9],
+        owner: [0; 31],
+        lens,
         version: [0; 4],
-    }
-}
-
-// Fixed data refused.
-pub fn refused_fixed(r: Refusal) -> FixedRead
-    ensures { RefusedFixed r result }
-{
-    FixedRead {
-        verdict: Verdict::Refused(r),
-        contents: no_fixed(),
     }
 }
 
@@ -101,10 +72,10 @@ pub fn refused_fixed(r: Refusal) -> FixedRead
 pub fn is_kind(b: u8) -> bool
     ensures { IsKind b result }
 {
-    (b == b'P') | (b == b'Z')
+    matches!(b, b'P' | b'Z')
 }
 
-// Whether a byte is a start-up letter.
+// Whether a byte is a start-up letter. Not by `matches!`, which branches, and then the settings take 226 instructions and not 196.
 pub fn is_letter(b: u8) -> bool
     ensures { IsLetter b result }
 {
@@ -124,88 +95,72 @@ fn is_blur(s: &[u16]) -> bool
     ensures { result ≡ blur_ok s.now }
 {
     let mut all = true;
-    let mut i = 0;
-    while i < s.len() {
-        all = all & (s[i] <= 999);
-        i += 1;
+    for &circle in s {
+        all &= circle <= 999;
     }
     all
 }
 
-// The lowest of items 3 to 7 that is out of range, or 0.
-fn lowest_of_lens(l: Lens) -> u32
-    ensures { result ≡ lens_lowest l }
+// The lowest of items 3 to 7 that is out of range.
+fn lowest_of_lens(l: Lens) -> Option<u32>
+    ensures { result ≡ lowest_named (lens_lowest l) }
 {
     if !is_kind(l.kind) {
-        return 3;
+        return Some(3);
     }
     if 999 < l.focal {
-        return 4;
+        return Some(4);
     }
     if 999 < l.maximum {
-        return 5;
+        return Some(5);
     }
     if !is_letter(l.letter) {
-        return 6;
+        return Some(6);
     }
     if 99 < l.transmission {
-        return 7;
+        return Some(7);
     }
-    0
+    None
 }
 
-// The lowest item out of range, or 0 where the fixed data may be sent.
-pub fn lowest_item(f: Fixed) -> u32
+// The lowest item out of range; none where the fixed data may be sent.
+pub fn lowest_item(f: Fixed) -> Option<u32>
     ensures { LowestItem f result }
 {
-    let serial = f.serial;
-    if !is_item(&serial, 9) {
-        return 1;
+    if !is_item(&f.serial, 9) {
+        return Some(1);
     }
-    let owner = f.owner;
-    if !is_item(&owner, 31) {
-        return 2;
+    if !is_item(&f.owner, 31) {
+        return Some(2);
     }
-    let lens = Lens {
-        kind: f.kind,
-        focal: f.focal,
-        maximum: f.maximum,
-        letter: f.letter,
-        transmission: f.transmission,
-    };
-    let lowest = lowest_of_lens(lens);
-    if lowest != 0 {
+    let lowest = lowest_of_lens(f.lens);
+    if lowest.is_some() {
         return lowest;
     }
-    let version = f.version;
-    if !is_item(&version, 4) {
-        return 8;
+    if !is_item(&f.version, 4) {
+        return Some(8);
     }
-    0
+    None
 }
 
-// The lowest item out of range, or 0 where a port may start with these settings.
-pub fn lowest_setting(s: Settings) -> u32
+// The lowest item out of range; none where a port may start with these settings.
+pub fn lowest_setting(s: Settings) -> Option<u32>
     ensures { LowestSetting s result }
 {
-    let fixed = s.fixed;
-    let lowest = lowest_item(fixed);
-    if lowest != 0 {
+    let lowest = lowest_item(s.fixed);
+    if lowest.is_some() {
         return lowest;
     }
-    let maker = s.maker;
-    if !is_item(&maker, 15) {
-        return 9;
+    if !is_item(&s.maker, 15) {
+        return Some(9);
     }
-    let type_name = s.type_name;
-    if !is_item(&type_name, 30) {
-        return 10;
+    if !is_item(&s.type_name, 30) {
+        return Some(10);
     }
-    let blur = s.blur;
-    if !is_blur(&blur) {
-        return 11;
+    if !is_blur(&s.blur) {
+        return Some(11);
     }
-    0
+    None
 }
 
 // Whether items 3 to 7 are in range.
@@ -221,25 +176,17 @@ fn is_lens(l: Lens) -> bool
 fn is_fixed(f: Fixed) -> bool
     ensures { result ≡ eqb (fixed_lowest f) 0 }
 {
-    let lens = Lens {
-        kind: f.kind,
-        focal: f.focal,
-        maximum: f.maximum,
-        letter: f.letter,
-        transmission: f.transmission,
-    };
     let serial = codec::is_text(&f.serial);
     let owner = codec::is_text(&f.owner);
     let version = codec::is_text(&f.version);
-    serial & (owner & (is_lens(lens) & version))
+    serial & (owner & (is_lens(f.lens) & version))
 }
 
 // Whether a port may start with these settings.
 pub fn are_settings(s: Settings) -> bool
     ensures { AreSettings s result }
 {
-    let fixed = s.fixed;
-    let items = is_fixed(fixed);
+    let items = is_fixed(s.fixed);
     let maker = codec::is_text(&s.maker);
     let type_name = codec::is_text(&s.type_name);
     let blur = is_blur(&s.blur);
@@ -259,11 +206,7 @@ pub fn fixed_from(serial: &[u8], owner: &[u8], lens: Lens, version: &[u8]) -> Fi
     Fixed {
         serial: nine,
         owner: thirty_one,
-        kind: lens.kind,
-        focal: lens.focal,
-        maximum: lens.maximum,
-        letter: lens.letter,
-        transmission: lens.transmission,
+        lens,
         version: four,
     }
 }

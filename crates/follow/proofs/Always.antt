@@ -5,8 +5,8 @@ use mathlib.Core.List.{List, [], ◌∷◌, ◌++◌}
 use mathlib.Core.Path.{◌≡◌, refl, subst}
 use native.Mathlib.Omega.{arith}
 use lib.ListN.{length, take, drop, replicate, length-drop, take-append-drop}
+use Rattle.std.specs.Prelude.{Ok}
 use Rattle.laws.proofs.Tests.{and_both, and_left}
-use Rattle.refusal.specs.declared.Verdict.TheVariants.{Done}
 use Rattle.telling.proofs.Events.{short_line}
 use Rattle.runs.specs.Runs.{start_runs, valid_runs}
 use Rattle.runs.proofs.Promises as runs
@@ -51,7 +51,7 @@ feeds zero f s h v = none s h
     none (b ∷ t) k = absurd (omega arith)
 feeds (suc fuel) f s h v = feeds_by fuel (feeds fuel) f s h v
 
-pub always : (letter : ℕ) (ports : Bool) (input : List ℕ) → (start_runs letter).verdict ≡ Done →
+pub always : (letter : ℕ) (ports : Bool) (input : List ℕ) → (start_runs letter).verdict ≡ Ok tt →
     Replays letter ports input (replay_both ports (start_runs letter).runs input)
 always letter ports input d =
     let v = and_both ((runs.each_call).start_valid letter d) refl in

@@ -6,9 +6,9 @@ use mathlib.Core.List.{List, [], ◌∷◌, ◌++◌, append_assoc, append-nil}
 use mathlib.Core.Path.{◌≡◌, refl, sym, ap, subst, ◌∙◌}
 use native.Mathlib.Omega.{arith}
 use lib.ListN.{replicate}
+use Rattle.std.specs.Prelude.{Ok}
 use Rattle.machine.specs.Machine.{sent, start}
 use Rattle.machine.specs.Promised.{Promised}
-use Rattle.refusal.specs.declared.Verdict.TheVariants.{Done}
 use Rattle.units.specs.declared.Measurement.{Measurement}
 use Rattle.bench_lens.specs.Bench.{bench_settings, bench_measurement}
 use Rattle.state.specs.declared.Source.{Source}
@@ -218,7 +218,7 @@ module _ (ports : Bool) where
 abbrev unstarted_box : Both
 unstarted_box = record { connectors = unstarted_both; lines = blank_lines }
 
-module _ (letter : ℕ) (d : (start_runs letter).verdict ≡ Done) where
+module _ (letter : ℕ) (d : (start_runs letter).verdict ≡ Ok tt) where
   from_start : FromRestart (box_by (start_runs letter).runs)
   unfolding start_runs after_all
   from_start = record {

@@ -5,6 +5,7 @@ use mathlib.Core.List.{List, [], ◌∷◌, ◌++◌}
 use mathlib.Core.Path.{◌≡◌, refl, sym, ap, ◌∙◌}
 use native.Mathlib.Omega.{arith}
 use lib.ListN.{replicate}
+use Rattle.std.specs.Prelude.{Ok}
 use Rattle.machine.specs.Machine.{slots}
 use Rattle.bench_lens.specs.Bench.{bench_settings, bench_measurement}
 use Rattle.line.specs.Line.{blank}
@@ -15,7 +16,6 @@ use Rattle.walk.proofs.BySlots.{after_append, slots_are}
 use Rattle.capture.specs.Capture.{event_of}
 use Rattle.capture.specs.declared.Event.{Event}
 use Rattle.capture.specs.declared.Event.TheVariants.{Received, Slots, Measured, Other}
-use Rattle.refusal.specs.declared.Verdict.TheVariants.{Done}
 use Rattle.printed.specs.Printed.{after_slots}
 use Rattle.telling.specs.Telling.{start_with, is_over, slots_left, Telling, tells, tell_of}
 use Rattle.telling.specs.declared.Run.{Run}
@@ -108,7 +108,7 @@ number r ls = by_calls r ls ∙ ap (λ (k : ℕ). r.slots + k) (slots_are (held_
 
 -- ---- a start
 
-pub from_start : (letter : ℕ) → (start_with letter).verdict ≡ Done → FromStart (held_by (start_with letter).run)
+pub from_start : (letter : ℕ) → (start_with letter).verdict ≡ Ok tt → FromStart (held_by (start_with letter).run)
 unfolding start_with after_all
 from_start letter e = record {
   old = unstarted;

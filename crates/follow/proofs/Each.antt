@@ -7,11 +7,11 @@ use native.Mathlib.Omega.{arith}
 use borrow.Author.Tests.{eqb-true, eqb-false, leb-true, leb-false}
 use lib.Dec.{leb, eqb}
 use lib.ListN.{length, take}
+use Rattle.std.specs.Prelude.{Err, Ok}
 use Rattle.laws.specs.Over.{over}
 use Rattle.laws.proofs.Tests.{told, never, and_left}
+use Rattle.refusal.specs.Answer.{Answer}
 use Rattle.refusal.specs.declared.Refusal.TheVariants as refusal
-use Rattle.frame.specs.declared.Wrote.{Wrote}
-use Rattle.frame.specs.declared.Wrote.TheVariants.{Count, Refused}
 use Rattle.capture.specs.Words.{before}
 use Rattle.capture.proofs.Words.{before_low}
 use Rattle.printed.specs.Printed.{LF}
@@ -32,14 +32,14 @@ module _ (r : Runs) (x : Addressed) (out : List ℕ) (v : valid_runs r ≡ true)
   t = tell_at r x
 
   told_whole : length t.text ≤ length out →
-      (told_at r x out ≡ record { wrote = Count (length t.text); runs = t.runs }) × (told_at_leaves r x out ≡ over out 0 t.text)
+      (told_at r x out ≡ record { wrote = Ok (length t.text); runs = t.runs }) × (told_at_leaves r x out ≡ over out 0 t.text)
   told_whole h = each_call.tell_done r x out ((each_call.both_valid r).0 v x.side) h
 
-  told_short : length out < length t.text → (told_at r x out ≡ record { wrote = Refused (refusal.Room (length t.text)); runs = r }) × (told_at_leaves r x out ≡ out)
+  told_short : length out < length t.text → (told_at r x out ≡ record { wrote = Err (refusal.Room (length t.text)); runs = r }) × (told_at_leaves r x out ≡ out)
   told_short h =
       let w = (each_call.tell_2 r x out (length t.text)).1 ((each_call.both_valid r).0 v x.side, h, refl) in
       let same = each_call.tell_same r x out _ w in
-      (ap₂ (λ (y : Wrote) (q : Runs). record { wrote = y; runs = q }) w same.0, same.1)
+      (ap₂ (λ (y : Answer ℕ) (q : Runs). record { wrote = y; runs = q }) w same.0, same.1)
 
 -- ---- take
 
@@ -48,10 +48,10 @@ valid_runs_lem f v = and_left (valid_runs f.runs) (valid_text f.text) v
 
 -- the follower once a text was printed
 abbrev pub told_to : Follower → TellingAt → ℕ → Followed
-told_to f t used = record { wrote = Count (length t.text); used = used; follower = record { runs = t.runs; text = blank_text; ports = f.ports } }
+told_to f t used = record { wrote = Ok (length t.text); used = used; follower = record { runs = t.runs; text = blank_text; ports = f.ports } }
 
 abbrev pub short_of : Follower → TellingAt → Followed
-short_of f t = record { wrote = Refused (refusal.Room (length t.text)); used = 0; follower = f }
+short_of f t = record { wrote = Err (refusal.Room (length t.text)); used = 0; follower = f }
 
 module _ (f : Follower) (piece out : List ℕ) where
   -- what the line tells that ends in the piece
@@ -109,7 +109,7 @@ module _ (f : Follower) (out : List ℕ) where
 
   pub data Closed : Type 0 where
     invalid : valid_follower f ≡ false → close_of f out ≡ refused_state f → close_leaves f out ≡ out → Closed
-    no_line : valid_follower f ≡ true → f.text.len ≡ 0 → close_of f out ≡ record { wrote = Count 0; used = 0; follower = f } → close_leaves f out ≡ out → Closed
+    no_line : valid_follower f ≡ true → f.text.len ≡ 0 → close_of f out ≡ record { wrote = Ok 0; used = 0; follower = f } → close_leaves f out ≡ out → Closed
     whole : valid_follower f ≡ true → (f.text.len ≡ 0 → ⊥) → length unended.text ≤ length out → close_of f out ≡ told_to f unended 0 →
         close_leaves f out ≡ over out 0 unended.text → Closed
     short : valid_follower f ≡ true → (f.text.len ≡ 0 → ⊥) → length out < length unended.text → close_of f out ≡ short_of f unended →
@@ -149,7 +149,7 @@ within f piece out = by_case (took f piece out)
     by_case (whole v n h e l) = rw e (omega arith)
     by_case (short v n h e l) = rw e (omega arith)
 
-pub fits : (f : Follower) (piece out : List ℕ) (n : ℕ) → (take_of f piece out).wrote ≡ Count n → n ≤ length out
+pub fits : (f : Follower) (piece out : List ℕ) (n : ℕ) → (take_of f piece out).wrote ≡ Ok n → n ≤ length out
 fits f piece out n c = by_case (took f piece out)
   where
     by_case : Took f piece out → n ≤ length out

@@ -8,10 +8,10 @@ use native.Mathlib.Omega.{arith}
 use borrow.Author.Tests.{le-leb, lt-leb, leb-true, leb-false, ltb-true}
 use lib.Dec.{ltb}
 use lib.ListN.{length, take}
+use Rattle.std.specs.Prelude.{Err, Ok}
 use Rattle.laws.proofs.Tests.{told, by, never, and_left, and_both, and_fails, and_fails_by}
 use Rattle.refusal.specs.declared.Refusal.{Refusal}
 use Rattle.refusal.specs.declared.Refusal.TheVariants.{Room, State}
-use Rattle.frame.specs.declared.Wrote.TheVariants.{Count, Refused}
 use Rattle.capture.specs.Words.{before}
 use Rattle.printed.specs.Printed.{LF}
 use Rattle.runs.specs.Runs.{valid_runs}
@@ -54,35 +54,35 @@ joined_few t (b ∷ s) h =
 -- ---- a call, by its case
 
 module _ {f : Follower} {piece out : List ℕ} where
-  take_16 : Took f piece out → ((take_of f piece out).wrote ≡ Refused State) ↔ (valid_follower f ≡ false)
+  take_16 : Took f piece out → ((take_of f piece out).wrote ≡ Err State) ↔ (valid_follower f ≡ false)
   take_16 (invalid v e l) = (λ h. v, λ n. cc)
   take_16 (held v q e l) = (λ h. never (cc), λ n. never (cc))
   take_16 (whole v q k e l) = (λ h. never (cc), λ n. never (cc))
   take_16 (short v q k e l) = (λ h. never (cc), λ n. never (cc))
 
   take_2 : Took f piece out → (n : ℕ) →
-      ((take_of f piece out).wrote ≡ Refused (Room n)) ↔
+      ((take_of f piece out).wrote ≡ Err (Room n)) ↔
       ((valid_follower f ≡ true) × (before LF piece < length piece) × (length out < length (ending f piece out).text) × (n ≡ length (ending f piece out).text))
   take_2 (invalid v e l) n = (λ h. never (cc), λ h. never (cc))
   take_2 (held v q e l) n = (λ h. never (cc), λ h. absurd (omega arith))
   take_2 (whole v q k e l) n = (λ h. never (cc), λ h. absurd (omega arith))
   take_2 (short v q k e l) n = (λ h. (v, q, k, cc), λ h. cc)
 
-  take_same : Took f piece out → (x : Refusal) → (take_of f piece out).wrote ≡ Refused x →
+  take_same : Took f piece out → (x : Refusal) → (take_of f piece out).wrote ≡ Err x →
       ((take_of f piece out).used ≡ 0) × ((take_of f piece out).follower ≡ f) × (take_leaves f piece out ≡ out)
   take_same (invalid v e l) x h = (cc, cc, l)
   take_same (held v q e l) x h = never (cc)
   take_same (whole v q k e l) x h = never (cc)
   take_same (short v q k e l) x h = (cc, cc, l)
 
-  uses_some : Took f piece out → (n : ℕ) → (take_of f piece out).wrote ≡ Count n → 0 < length piece → 0 < (take_of f piece out).used
+  uses_some : Took f piece out → (n : ℕ) → (take_of f piece out).wrote ≡ Ok n → 0 < length piece → 0 < (take_of f piece out).used
   uses_some (invalid v e l) n h some = never (cc)
   uses_some (held v q e l) n h some = rw e some
   uses_some (whole v q k e l) n h some = rw e (omega arith)
   uses_some (short v q k e l) n h some = never (cc)
 
   -- no line has more than 999 slots
-  goes_on : Took f piece out → valid_follower f ≡ true → 2997 ≤ length out → (n : ℕ) × ((take_of f piece out).wrote ≡ Count n)
+  goes_on : Took f piece out → valid_follower f ≡ true → 2997 ≤ length out → (n : ℕ) × ((take_of f piece out).wrote ≡ Ok n)
   goes_on (invalid v e l) t h = never (cc)
   goes_on (held v q e l) t h = (0, cc)
   goes_on (whole v q k e l) t h = (length (ending f piece out).text, cc)
@@ -97,13 +97,13 @@ module _ {f : Follower} {piece out : List ℕ} where
   kept_valid (whole v q k e l) t = rw e (and_both (of-runs.tell_valid f.runs _ (and_left (valid_runs f.runs) _ t)) refl)
   kept_valid (short v q k e l) t = rw e t
 
-close_same : {f : Follower} {out : List ℕ} → Closed f out → (x : Refusal) → (close_of f out).wrote ≡ Refused x → ((close_of f out).follower ≡ f) × (close_leaves f out ≡ out)
+close_same : {f : Follower} {out : List ℕ} → Closed f out → (x : Refusal) → (close_of f out).wrote ≡ Err x → ((close_of f out).follower ≡ f) × (close_leaves f out ≡ out)
 close_same (invalid v e l) x h = (cc, l)
 close_same (no_line v z e l) x h = never (cc)
 close_same (whole v z k e l) x h = never (cc)
 close_same (short v z k e l) x h = (cc, l)
 
-close_16 : {f : Follower} {out : List ℕ} → Closed f out → ((close_of f out).wrote ≡ Refused State) ↔ (valid_follower f ≡ false)
+close_16 : {f : Follower} {out : List ℕ} → Closed f out → ((close_of f out).wrote ≡ Err State) ↔ (valid_follower f ≡ false)
 close_16 (invalid v e l) = (λ h. v, λ n. cc)
 close_16 (no_line v z e l) = (λ h. never (cc), λ n. never (cc))
 close_16 (whole v z k e l) = (λ h. never (cc), λ n. never (cc))
@@ -111,14 +111,14 @@ close_16 (short v z k e l) = (λ h. never (cc), λ n. never (cc))
 
 -- 2 exactly for a line whose text is too long
 close_2 : {f : Follower} {out : List ℕ} → Closed f out → (n : ℕ) →
-    ((close_of f out).wrote ≡ Refused (Room n)) ↔
+    ((close_of f out).wrote ≡ Err (Room n)) ↔
     ((valid_follower f ≡ true) × (f.text.len ≢ 0) × (length out < length (unended f out).text) × (n ≡ length (unended f out).text))
 close_2 (invalid v e l) n = (λ h. never (cc), λ h. never (cc))
 close_2 (no_line v z e l) n = (λ h. never (cc), λ h. absurd (h.1 z))
 close_2 (whole v z k e l) n = (λ h. never (cc), λ h. absurd (omega arith))
 close_2 (short v z k e l) n = (λ h. (v, z, k, cc), λ h. cc)
 
-close_goes_on : {f : Follower} {out : List ℕ} → Closed f out → valid_follower f ≡ true → 2997 ≤ length out → (n : ℕ) × ((close_of f out).wrote ≡ Count n)
+close_goes_on : {f : Follower} {out : List ℕ} → Closed f out → valid_follower f ≡ true → 2997 ≤ length out → (n : ℕ) × ((close_of f out).wrote ≡ Ok n)
 close_goes_on (invalid v e l) t h = never (cc)
 close_goes_on (no_line v z e l) t h = (0, cc)
 close_goes_on {f} {out} (whole v z k e l) t h = (length (unended f out).text, cc)
@@ -132,7 +132,7 @@ close_valid (no_line v z e l) t = rw e t
 close_valid {f} (whole v z k e l) t = rw e (and_both (of-runs.tell_valid f.runs _ (and_left (valid_runs f.runs) _ t)) refl)
 close_valid (short v z k e l) t = rw e t
 
-close_once : {f : Follower} {out : List ℕ} {n : ℕ} → Closed f out → (close_of f out).wrote ≡ Count n → ((close_of f out).used ≡ 0) × ((close_of f out).follower.text.len ≡ 0)
+close_once : {f : Follower} {out : List ℕ} {n : ℕ} → Closed f out → (close_of f out).wrote ≡ Ok n → ((close_of f out).used ≡ 0) × ((close_of f out).follower.text.len ≡ 0)
 close_once (invalid v e l) h = never (cc)
 close_once (no_line v z e l) h = (cc, rw e z)
 close_once (whole v z k e l) h = (cc, rw e)

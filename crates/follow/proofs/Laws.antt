@@ -9,9 +9,9 @@ use borrow.Author.Tests.{eq-eqb, ne_eqb, lt-ltb, le-ltb, ltb-true, ltb-false}
 use lib.Dec.{ltb}
 use lib.ListN.{length, take, drop, get_or, set, length-set}
 use lib.Seq.{drop-cons, take-suc-set, take_all, take_at, length-take-le}
+use Rattle.std.specs.Prelude.{Ok}
 use Rattle.laws.specs.Gives.{Gives}
 use Rattle.laws.proofs.Tests.{yes, no, told, and_right, cond_yes, cond_no}
-use Rattle.frame.specs.declared.Wrote.TheVariants.{Count}
 use Rattle.capture.specs.Words.{before}
 use Rattle.printed.specs.Printed.{LF}
 use Rattle.runs.specs.Clauses.{RunsTell}
@@ -133,7 +133,7 @@ module _ (f : Follower) (out : List ℕ) where
   unfolding close_of close_leaves
   close_16 v = record { answers = no _ v refl; leaves = no _ v refl }
 
-  pub close_none : valid_follower f ≡ true → f.text.len ≡ 0 → Closes (record { wrote = Count 0; used = 0; follower = f }) out
+  pub close_none : valid_follower f ≡ true → f.text.len ≡ 0 → Closes (record { wrote = Ok 0; used = 0; follower = f }) out
   unfolding close_of close_leaves
   close_none v e = record { answers = yes _ v (yes _ (eq-eqb _ _ e) refl); leaves = yes _ v (yes _ (eq-eqb _ _ e) refl) }
 

@@ -4,8 +4,8 @@ use mathlib.Core.Bool.{true, false}
 use mathlib.Core.List.{List}
 use mathlib.Core.Path.{◌≡◌, refl, sym, ap, subst, ◌∙◌}
 use lib.ListN.{replicate}
+use Rattle.std.specs.Prelude.{Ok}
 use Rattle.laws.proofs.Tests.{cond_no}
-use Rattle.refusal.specs.declared.Verdict.TheVariants.{Done}
 use Rattle.machine.specs.Machine.{sent, start}
 use Rattle.machine.specs.Promised.{Promised}
 use Rattle.bench_lens.specs.Bench.{bench_settings, bench_measurement}
@@ -41,7 +41,7 @@ use Rattle.follow.proofs.Examples.{empty, four, greetings}
 
 -- ---- a start is one of the port's
 
-module _ (letter : ℕ) (e : (start_with letter).verdict ≡ Done) where
+module _ (letter : ℕ) (e : (start_with letter).verdict ≡ Ok tt) where
   source_is : (start_with letter).run.port.source ≡ (started_port (bench_settings letter) bench_measurement).source
   unfolding start_with
   source_is = ap (λ (p : Port). p.source) (leaves_new unstarted blank (bench_settings letter) bench_measurement e).0
@@ -95,7 +95,7 @@ one_text letter input = both.without (start_runs letter).runs input ∙ ap (λ (
 one_replays : (letter : ℕ) (input text : List ℕ) → Replays letter false input text → text ≡ replay_with (start_with letter).run input
 one_replays letter input text p = replays letter false input text p ∙ one_text letter input
 
-one_always : (letter : ℕ) (input : List ℕ) → (start_with letter).verdict ≡ Done → Replays letter false input (replay_with (start_with letter).run input)
+one_always : (letter : ℕ) (input : List ℕ) → (start_with letter).verdict ≡ Ok tt → Replays letter false input (replay_with (start_with letter).run input)
 one_always letter input d = subst (Replays letter false input) (one_text letter input) (always letter false input (each_call.start_verdict_lem letter ∙ d))
 
 pub whole_text : WholeText

@@ -7,17 +7,15 @@ use native.Mathlib.Omega.{arith}
 use borrow.Author.Tests.{lt-ltb, le-ltb, ltb-true, ltb-false, ne_eqb, le-leb}
 use lib.Dec.{ltb}
 use lib.ListN.{length, replicate}
+use Rattle.std.specs.Prelude.{Err, None, Ok, Option, Some}
 use Rattle.laws.proofs.Tests.{told, cond_yes, cond_no}
+use Rattle.refusal.specs.Answer.{Answer, Verdict}
 use Rattle.refusal.specs.Refusal.{number_of}
 use Rattle.refusal.specs.declared.Refusal.{Refusal}
 use Rattle.refusal.specs.declared.Refusal.TheVariants.{Form}
-use Rattle.refusal.specs.declared.Verdict.{Verdict}
-use Rattle.refusal.specs.declared.Verdict.TheVariants.{Done, Refused}
 use Rattle.digits.specs.Digits.{digits, decimal}
 use Rattle.capture.specs.Words.{before, space}
 use Rattle.port.specs.declared.Port.{Port}
-use Rattle.port.specs.declared.Sent.{Sent}
-use Rattle.port.specs.declared.Sent.TheVariants as sent
 use Rattle.port.specs.Port.{slot_of, receive_of, measure_of}
 use Rattle.walk.specs.View.{bytes_of}
 use Rattle.walk.specs.Calls.{Call, slots_once, Held, after, bytes_all}
@@ -59,7 +57,7 @@ hex_back n =
 -- ---- a slot
 
 -- its two characters
-record Pair (s : Sent) : Type 0 where
+record Pair (s : Answer (Option ℕ)) : Type 0 where
   first : ℕ
   second : ℕ
   is : slot_text s ≡ first ∷ second ∷ []
@@ -67,9 +65,9 @@ record Pair (s : Sent) : Type 0 where
   higher : 45 ≤ second
   shows : shown_by first second ≡ bytes_of s
 
-pair : (s : Sent) → Pair s
+pair : (s : Answer (Option ℕ)) → Pair s
 unfolding shown_by
-pair (sent.Byte b) =
+pair (Ok (Some b)) =
     let h = hex_high (b / 16) in
     let k = hex_high (b % 16) in
     record {
@@ -82,8 +80,8 @@ pair (sent.Byte b) =
           cond_no _ _ (ne_eqb (hex_digit (b / 16)) 45 (λ e. absurd (omega arith)))
           ∙ ap (λ (n : ℕ). n ∷ []) (ap₂ (λ (x y : ℕ). 16 * x + y) (hex_back (b / 16)) (hex_back (b % 16)) ∙ omega (arith, div-add-mod' b 16));
     }
-pair sent.Idle = record { first = 45; second = 45; is = refl; high = omega arith; higher = omega arith; shows = refl }
-pair (sent.Refused r) = record { first = 45; second = 45; is = refl; high = omega arith; higher = omega arith; shows = refl }
+pair (Ok None) = record { first = 45; second = 45; is = refl; high = omega arith; higher = omega arith; shows = refl }
+pair (Err r) = record { first = 45; second = 45; is = refl; high = omega arith; higher = omega arith; shows = refl }
 
 -- ---- a line of slots
 
@@ -110,13 +108,13 @@ unfolding before
 two_before x a b s h k = cond_no _ _ (ne_eqb a x h) ∙ ap suc (cond_no _ _ (ne_eqb b x k))
 
 -- a slot's characters are none below the dash
-slot_before : (x : ℕ) (t : Sent) (s : List ℕ) → x < 45 → before x (slot_text t ++ s) ≡ suc (suc (before x s))
+slot_before : (x : ℕ) (t : Answer (Option ℕ)) (s : List ℕ) → x < 45 → before x (slot_text t ++ s) ≡ suc (suc (before x s))
 slot_before x t s h =
     let p = pair t in
     ap (λ (y : List ℕ). before x (y ++ s)) p.is
     ∙ two_before x p.first p.second s (λ e. absurd (omega (arith, p.high))) (λ e. absurd (omega (arith, p.higher)))
 
-slot_long : (t : Sent) (s : List ℕ) → length (slot_text t ++ s) ≡ suc (suc (length s))
+slot_long : (t : Answer (Option ℕ)) (s : List ℕ) → length (slot_text t ++ s) ≡ suc (suc (length s))
 slot_long t s = ap (λ (y : List ℕ). length (y ++ s)) (pair t).is
 
 line_unbroken : (n : ℕ) (p : Port) → Unbroken (line_of n p)
@@ -210,8 +208,8 @@ unfolding shown_line before
 shows_count n = shows_label _ n refl refl
 
 pub shows_verdict : (v : Verdict) → Shows (verdict_text v) []
-shows_verdict Done = shows_none
-shows_verdict (Refused x) = shows_refused x
+shows_verdict (Ok tt) = shows_none
+shows_verdict (Err x) = shows_refused x
 
 -- ---- an event, and lines
 

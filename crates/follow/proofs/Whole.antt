@@ -9,10 +9,10 @@ use borrow.Author.Tests.{leb-true, leb-false}
 use lib.Dec.{leb}
 use lib.ListN.{length, take}
 use lib.Seq.{take_all, take_at, take-append-le, length-take-le}
+use Rattle.std.specs.Prelude.{Ok}
 use Rattle.laws.specs.Over.{over}
 use Rattle.laws.proofs.OverLaws.{take_over}
 use Rattle.laws.proofs.Tests.{told, never}
-use Rattle.frame.specs.declared.Wrote.TheVariants.{Count}
 use Rattle.capture.specs.Words.{before}
 use Rattle.printed.specs.Printed.{LF, slots_line}
 use Rattle.runs.specs.Runs.{event_at, start_runs, valid_runs, TellingAt, tell_at, count_both, count_both_leaves}
@@ -92,7 +92,7 @@ first_line ports r l s u = ap (tell_both ports r) (ended l s u)
 
 -- a piece in which no line ends
 module _ {w : List ℕ} (f : Follower) (piece out : List ℕ) (n : ℕ) (s t : List ℕ) (g : Follower) (h : Has w f)
-    (c : (take_of f piece out).wrote ≡ Count n) where
+    (c : (take_of f piece out).wrote ≡ Ok n) where
   held_comes : take_of f piece out ≡ hold_of f piece → Comes (w ++ piece) (take_of f piece out).follower s t g →
       Comes w f (take (take_of f piece out).used piece ++ s) (take n (take_leaves f piece out) ++ t) g
   held_comes e i =
@@ -143,7 +143,7 @@ module _ {w : List ℕ} (f : Follower) (piece out : List ℕ) (n : ℕ) (s t : L
       joins rest = simp append_assoc
 
 -- by what the call made of its piece, and what the calls after it come to
-comes_by : {w : List ℕ} (f : Follower) (piece out : List ℕ) (n : ℕ) (s t : List ℕ) (g : Follower) → Has w f → (take_of f piece out).wrote ≡ Count n →
+comes_by : {w : List ℕ} (f : Follower) (piece out : List ℕ) (n : ℕ) (s t : List ℕ) (g : Follower) → Has w f → (take_of f piece out).wrote ≡ Ok n →
     ((v : List ℕ) → Has v (take_of f piece out).follower → Comes v (take_of f piece out).follower s t g) →
     Took f piece out → Comes w f (take (take_of f piece out).used piece ++ s) (take n (take_leaves f piece out) ++ t) g
 comes_by f piece out n s t g h c i (invalid v e l) = never (cc)
@@ -197,7 +197,7 @@ line_tells (b ∷ w) f out n h some z room e l =
       runs = e ∙ ap (λ (y : Addressed). (tell_at f.runs y).runs) x ∙ sym (ap (λ (t : TellingAt). t.runs) one);
     }
 
-close_tells : (w : List ℕ) (f : Follower) (out : List ℕ) (n : ℕ) → Has w f → (close_of f out).wrote ≡ Count n → Closed f out → Tells w f out n
+close_tells : (w : List ℕ) (f : Follower) (out : List ℕ) (n : ℕ) → Has w f → (close_of f out).wrote ≡ Ok n → Closed f out → Tells w f out n
 close_tells w f out n h c (invalid v e l) = never (cc)
 close_tells w f out n h c (no_line v z e l) =
     let nothing : w ≡ [] = nothing_kept w (sym h.kept ∙ ap (λ (k : ℕ). take k f.text.bytes) z) in
@@ -206,7 +206,7 @@ close_tells w f out n h c (whole v some room e l) = line_tells w f out n h some 
 close_tells w f out n h c (short v some room e l) = never (cc)
 
 -- the last line
-count_tells : (r : Runs) (out : List ℕ) (n : ℕ) → count_both r out ≡ Count n → take n (count_both_leaves r out) ≡ slots_line r.slots
+count_tells : (r : Runs) (out : List ℕ) (n : ℕ) → count_both r out ≡ Ok n → take n (count_both_leaves r out) ≡ slots_line r.slots
 count_tells r out n c =
     let line = slots_line r.slots in
     told (valid_runs r)

@@ -1,9 +1,8 @@
 -- The lines of a capture on both ports as calls of the box (crate isolation): its states, its slots and its bytes are those of the calls, and so each port
 -- is a run of the machine, of which demand 3 is proved. Definitions and statements only.
-use Rattle.std.specs.Prelude.{ℕ, ◌+◌, Bool, cond, List, [], ◌∷◌, ◌++◌, ◌≡◌, replicate}
+use Rattle.std.specs.Prelude.{ℕ, ◌+◌, Bool, cond, List, [], ◌∷◌, ◌++◌, ◌≡◌, replicate, Ok}
 use Rattle.machine.specs.Machine.{sent, start}
 use Rattle.machine.specs.Promised.{Promised}
-use Rattle.refusal.specs.declared.Verdict.TheVariants.{Done}
 use Rattle.rules.specs.Lens.{lens}
 use Rattle.rules.specs.Promise.{act_by, reply_by, record_by}
 use Rattle.walk.specs.Calls.{events_all}
@@ -62,7 +61,7 @@ text_on a ports r (l ∷ ls) =
 
 pub record OfTheBox : Type 0 where
   -- a start that is accepted is one of the box's, and no line restarts it
-  pub from_start : (letter : ℕ) → (start_runs letter).verdict ≡ Done → FromRestart (box_by (start_runs letter).runs)
+  pub from_start : (letter : ℕ) → (start_runs letter).verdict ≡ Ok tt → FromRestart (box_by (start_runs letter).runs)
   pub unrestarted : (ports : Bool) (r : Runs) (ls : List (List ℕ)) → Unrestarted (calls_both ports r ls)
   -- the box and both ports' lines are those of the calls
   pub states : (ports : Bool) (r : Runs) (ls : List (List ℕ)) → box_by (tell_both ports r ls).runs ≡ after_all (box_by r) (calls_both ports r ls)
@@ -73,9 +72,9 @@ pub record OfTheBox : Type 0 where
   -- the bytes that the lines of a port show are those that this port sends
   pub bytes : (a : Side) (ports : Bool) (r : Runs) (ls : List (List ℕ)) → shown (lines (text_on a ports r ls)) ≡ bytes_at a (box_by r) (calls_both ports r ls)
   -- and so the machine's, of which demand 3 is proved, for each port in its own slots: 156, 233 and 79
-  pub sends : (a : Side) (ports : Bool) (letter : ℕ) (ls : List (List ℕ)) → (start_runs letter).verdict ≡ Done →
+  pub sends : (a : Side) (ports : Bool) (letter : ℕ) (ls : List (List ℕ)) → (start_runs letter).verdict ≡ Ok tt →
       let r = (start_runs letter).runs in
       shown (lines (text_on a ports r ls))
       ≡ sent (start lens (run_at r a).port.source) (events_all (held_at (box_by r) a) (seen_at a (box_by r) (calls_both ports r ls)))
-  pub demand3 : (a : Side) (letter : ℕ) → (start_runs letter).verdict ≡ Done →
+  pub demand3 : (a : Side) (letter : ℕ) → (start_runs letter).verdict ≡ Ok tt →
       Promised lens act_by reply_by record_by (run_at (start_runs letter).runs a).port.source

@@ -1,7 +1,5 @@
 -- A replay as its calls: those of whoever lends the text, and those of the port that the lines come to.
-use Rattle.std.specs.Prelude.{ℕ, ◌+◌, ◌-◌, ◌*◌, Bool, cond, List, [], ◌∷◌, ◌++◌, ◌≡◌, ltb, leb, eqb, take, replicate}
-use Rattle.refusal.specs.declared.Verdict.TheVariants.{Done}
-use Rattle.frame.specs.declared.Wrote.TheVariants.{Count}
+use Rattle.std.specs.Prelude.{ℕ, ◌+◌, ◌-◌, ◌*◌, Bool, cond, List, [], ◌∷◌, ◌++◌, ◌≡◌, ltb, leb, eqb, take, replicate, Ok}
 use Rattle.walk.specs.Calls.{Call, receive, slots_once, measure, Held}
 use Rattle.capture.specs.Words.{before, space}
 use Rattle.capture.specs.Capture.{event_of}
@@ -19,22 +17,22 @@ use Rattle.follow.specs.declared.Follower.{Follower}
 -- calls from f to g, each with any piece and any memory that was not refused: the bytes they used, end to end, and what they printed
 pub data Fed : Follower → List ℕ → List ℕ → Follower → Type 0 where
   no_more : {f : Follower} → Fed f [] [] f
-  next : (f : Follower) (piece out : List ℕ) (n : ℕ) (s t : List ℕ) (g : Follower) → (take_of f piece out).wrote ≡ Count n →
+  next : (f : Follower) (piece out : List ℕ) (n : ℕ) (s t : List ℕ) (g : Follower) → (take_of f piece out).wrote ≡ Ok n →
       Fed (take_of f piece out).follower s t g →
       Fed f (take (take_of f piece out).used piece ++ s) (take n (take_leaves f piece out) ++ t) g
 
 -- a start, any calls over the whole input, the end of the text, and the last line
 pub record Replays (letter : ℕ) (ports : Bool) (input text : List ℕ) : Type 0 where
-  pub accepted : (begins_with letter ports).verdict ≡ Done
+  pub accepted : (begins_with letter ports).verdict ≡ Ok tt
   pub left : Follower
   pub told : List ℕ
   pub fed : Fed (begins_with letter ports).follower input told left
   pub room : List ℕ
   pub closed : ℕ
-  pub closes : (close_of left room).wrote ≡ Count closed
+  pub closes : (close_of left room).wrote ≡ Ok closed
   pub last_room : List ℕ
   pub counted : ℕ
-  pub counts : count_both (close_of left room).follower.runs last_room ≡ Count counted
+  pub counts : count_both (close_of left room).follower.runs last_room ≡ Ok counted
   pub printed : text ≡ told ++ (take closed (close_leaves left room) ++ take counted (count_both_leaves (close_of left room).follower.runs last_room))
 
 -- ---- the port's calls

@@ -1,8 +1,7 @@
 -- The same as the text comes in, in pieces: the follower keeps the line that has not ended yet.
-use Rattle.std.specs.Prelude.{ℕ, ◌+◌, Bool, cond, ◌&&◌, List, [], ◌∷◌, ◌++◌, ltb, leb, eqb, length, replicate, set, take}
+use Rattle.std.specs.Prelude.{ℕ, ◌+◌, Bool, cond, ◌&&◌, List, [], ◌∷◌, ◌++◌, ltb, leb, eqb, length, replicate, set, take, Err, Ok}
+use Rattle.refusal.specs.Answer.{Answer}
 use Rattle.refusal.specs.declared.Refusal.TheVariants.{State}
-use Rattle.frame.specs.declared.Wrote.{Wrote}
-use Rattle.frame.specs.declared.Wrote.TheVariants as wrote
 use Rattle.capture.specs.Words.{before}
 use Rattle.printed.specs.Printed.{LF}
 use Rattle.runs.specs.Runs.{event_at, start_runs, valid_runs, told_at, told_at_leaves}
@@ -51,20 +50,20 @@ abbrev pub valid_follower : Follower → Bool
 valid_follower f = valid_runs f.runs && valid_text f.text
 
 -- once a line was told: no line yet; where that was refused, as it was
-abbrev pub followed_as : Follower → Runs → ℕ → Wrote → Followed
-followed_as f runs used (wrote.Count n) = record { wrote = wrote.Count n; used = used; follower = record { runs = runs; text = blank_text; ports = f.ports } }
-followed_as f runs used (wrote.Refused r) = record { wrote = wrote.Refused r; used = 0; follower = f }
+abbrev pub followed_as : Follower → Runs → ℕ → Answer ℕ → Followed
+followed_as f runs used (Ok n) = record { wrote = Ok n; used = used; follower = record { runs = runs; text = blank_text; ports = f.ports } }
+followed_as f runs used (Err r) = record { wrote = Err r; used = 0; follower = f }
 
 abbrev pub followed_by : Follower → ToldAt → ℕ → Followed
 followed_by f told used = followed_as f told.runs used told.wrote
 
 abbrev pub refused_state : Follower → Followed
-refused_state f = record { wrote = wrote.Refused State; used = 0; follower = f }
+refused_state f = record { wrote = Err State; used = 0; follower = f }
 
 -- a piece in which no line ends
 abbrev pub hold_of : Follower → List ℕ → Followed
 hold_of f piece = record {
-  wrote = wrote.Count 0;
+  wrote = Ok 0;
   used = length piece;
   follower = record { runs = f.runs; text = joined_text f.text piece; ports = f.ports };
 }
@@ -100,7 +99,7 @@ unfoldable pub close_of : Follower → List ℕ → Followed
 close_of f out =
     cond (valid_follower f)
     (cond (eqb f.text.len 0)
-    (record { wrote = wrote.Count 0; used = 0; follower = f })
+    (record { wrote = Ok 0; used = 0; follower = f })
     (followed_by f (told_at f.runs (event_held f) out) 0))
     (refused_state f)
 

@@ -1,8 +1,7 @@
 -- What a replay promises with `ports`: the whole text that it prints is that of the runs of both ports, line by line, however the pieces fall; without
 -- port numbers it is the same as without `ports`. What a line prints and leaves is crate runs' `OfPorts` and `OfBoth`. Statements only.
-use Rattle.std.specs.Prelude.{ℕ, ◌≤◌, Bool, true, false, List, [], ◌∷◌, ◌++◌, ◌≡◌}
+use Rattle.std.specs.Prelude.{ℕ, ◌≤◌, Bool, true, false, List, [], ◌∷◌, ◌++◌, ◌≡◌, Ok}
 use Rattle.refusal.specs.declared.Refusal.TheVariants as refusal
-use Rattle.refusal.specs.declared.Verdict.TheVariants.{Done}
 use Rattle.connectors.specs.declared.Side.TheVariants.{Camera}
 use Rattle.capture.specs.declared.Event.TheVariants.{Other}
 use Rattle.printed.specs.Printed.{refused_text, slots_line}
@@ -22,7 +21,7 @@ AllUnnumbered (l ∷ ls) = Unnumbered l × AllUnnumbered ls
 pub record WithPorts : Type 0 where
   -- over any calls, the whole text out is the definition's for the whole text in; and there are such calls for every input
   pub replays : (letter : ℕ) (ports : Bool) (input text : List ℕ) → Replays letter ports input text → text ≡ replay_both ports (start_runs letter).runs input
-  pub always : (letter : ℕ) (ports : Bool) (input : List ℕ) → (start_runs letter).verdict ≡ Done →
+  pub always : (letter : ℕ) (ports : Bool) (input : List ℕ) → (start_runs letter).verdict ≡ Ok tt →
       Replays letter ports input (replay_both ports (start_runs letter).runs input)
   -- line by line, each on the port that it names, and last the slots
   pub no_line : (ports : Bool) (r : Runs) → tell_both ports r [] ≡ record { text = []; runs = r }

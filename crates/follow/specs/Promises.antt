@@ -1,18 +1,16 @@
 -- What a replay promises: the whole text that it prints is the definition's for the whole text in, however the pieces fall; what it shows is what the
 -- port's calls send, of which demand 3 is proved. Statements only.
-use Rattle.std.specs.Prelude.{ℕ, ◌+◌, ◌≤◌, ◌<◌, Bool, true, false, List, [], ◌∷◌, ◌++◌, ◌↔◌, ◌⊎◌, ◌≢◌, ◌≡◌, length, take, replicate}
+use Rattle.std.specs.Prelude.{ℕ, ◌+◌, ◌≤◌, ◌<◌, Bool, true, false, List, [], ◌∷◌, ◌++◌, ◌↔◌, ◌⊎◌, ◌≢◌, ◌≡◌, length, take, replicate, Err, Ok}
+use Rattle.refusal.specs.Answer.{Answer}
 use Rattle.machine.specs.Machine.{slots, sent, start}
 use Rattle.machine.specs.Promised.{Promised}
 use Rattle.refusal.specs.declared.Refusal.{Refusal}
 use Rattle.refusal.specs.declared.Refusal.TheVariants as refusal
-use Rattle.refusal.specs.declared.Verdict.TheVariants.{Done}
-use Rattle.frame.specs.declared.Wrote.TheVariants as wrote
 use Rattle.rules.specs.Lens.{lens}
 use Rattle.rules.specs.Promise.{act_by, reply_by, record_by}
 use Rattle.walk.specs.Calls.{receive, slots_once, measure, after, after_all, bytes_all, events_all, FromStart}
 use Rattle.walk.specs.InCalls.{slots_run}
 use Rattle.units.specs.declared.Measurement.{Measurement}
-use Rattle.frame.specs.declared.Wrote.{Wrote}
 use Rattle.follow.specs.Clauses.{FollowerStart, FollowerTake, FollowerClose}
 use Rattle.follow.specs.declared.Begun.{Begun}
 use Rattle.follow.specs.declared.Followed.{Followed}
@@ -48,7 +46,7 @@ pub record WholeText : Type 0 where
   -- over any calls, "the whole text out is the definition's for the whole text in": without `ports`
   pub replays : (letter : ℕ) (input text : List ℕ) → Replays letter false input text → text ≡ replay_with (start_with letter).run input
   -- and there are such calls for every input, whatever it is
-  pub always : (letter : ℕ) (input : List ℕ) → (start_with letter).verdict ≡ Done → Replays letter false input (replay_with (start_with letter).run input)
+  pub always : (letter : ℕ) (input : List ℕ) → (start_with letter).verdict ≡ Ok tt → Replays letter false input (replay_with (start_with letter).run input)
   -- line by line, and last the slots
   pub no_line : (r : Run) → tell_all r [] ≡ record { text = []; run = r }
   pub line : (r : Run) (l : List ℕ) (ls : List (List ℕ)) →
@@ -66,7 +64,7 @@ pub record WholeText : Type 0 where
 
 pub record OfTheCalls : Type 0 where
   -- a start that is accepted is one of the port's
-  pub from_start : (letter : ℕ) → (start_with letter).verdict ≡ Done → FromStart (held_by (start_with letter).run)
+  pub from_start : (letter : ℕ) → (start_with letter).verdict ≡ Ok tt → FromStart (held_by (start_with letter).run)
   -- an event is the port's call
   pub on_received : (r : Run) (b : ℕ) → is_over r ≡ false → held_by (tell_of r (Received b)).run ≡ after (held_by r) (receive b)
   pub on_measured : (r : Run) (m : Measurement) → is_over r ≡ false → held_by (tell_of r (Measured m)).run ≡ after (held_by r) (measure m)
@@ -77,14 +75,14 @@ pub record OfTheCalls : Type 0 where
   pub number : (r : Run) (ls : List (List ℕ)) → (tell_all r ls).run.slots ≡ r.slots + slots (events_all (held_by r) (calls_in r ls))
   pub by_calls : (r : Run) (ls : List (List ℕ)) → (tell_all r ls).run.slots ≡ r.slots + slots_run (held_by r) (calls_in r ls)
   -- the bytes that the text shows are those that the calls send
-  pub bytes : (letter : ℕ) (input : List ℕ) → (start_with letter).verdict ≡ Done →
+  pub bytes : (letter : ℕ) (input : List ℕ) → (start_with letter).verdict ≡ Ok tt →
       let r = (start_with letter).run in
       shown (lines (replay_with r input)) ≡ bytes_all (held_by r) (calls_in r (lines input))
   -- and so the machine's, of which demand 3 is proved: 156, 233 and 79
-  pub sends : (letter : ℕ) (input : List ℕ) → (start_with letter).verdict ≡ Done →
+  pub sends : (letter : ℕ) (input : List ℕ) → (start_with letter).verdict ≡ Ok tt →
       let r = (start_with letter).run in
       shown (lines (replay_with r input)) ≡ sent (start lens r.port.source) (events_all (held_by r) (calls_in r (lines input)))
-  pub demand3 : (letter : ℕ) → (start_with letter).verdict ≡ Done → Promised lens act_by reply_by record_by (start_with letter).run.port.source
+  pub demand3 : (letter : ℕ) → (start_with letter).verdict ≡ Ok tt → Promised lens act_by reply_by record_by (start_with letter).run.port.source
   -- no more than 100,000 slots are run
   pub at_most : (r : Run) (ls : List (List ℕ)) → r.slots ≤ 100000 → (tell_all r ls).run.slots ≤ 100000
   -- "10 .. prints `refused 10`, then `slots`, and ends the run"; lines before it are told as ever, and lines behind it are not looked at
@@ -100,35 +98,35 @@ pub record OfTheCalls : Type 0 where
 pub record EachCall : Type 0 where
   -- a start answers as the run's, and a close leaves no line to be told again
   pub begins : (letter : ℕ) (ports : Bool) → (begins_with letter ports).verdict ≡ (start_with letter).verdict
-  pub close_once : (f : Follower) (out : List ℕ) (n : ℕ) → (close_of f out).wrote ≡ wrote.Count n → ((close_of f out).used ≡ 0) × ((close_of f out).follower.text.len ≡ 0)
+  pub close_once : (f : Follower) (out : List ℕ) (n : ℕ) → (close_of f out).wrote ≡ Ok n → ((close_of f out).used ≡ 0) × ((close_of f out).follower.text.len ≡ 0)
   -- 16 exactly for runs or a count of bytes that is none of ours
   pub take_16 : (f : Follower) (piece out : List ℕ) →
-      ((take_of f piece out).wrote ≡ wrote.Refused refusal.State) ↔ ((valid_runs f.runs ≡ false) ⊎ (138 < f.text.len))
+      ((take_of f piece out).wrote ≡ Err refusal.State) ↔ ((valid_runs f.runs ≡ false) ⊎ (138 < f.text.len))
   -- then 2, exactly where a line ends and its text is longer than the lent memory, with its length
   pub take_2 : (f : Follower) (piece out : List ℕ) (n : ℕ) →
-      ((take_of f piece out).wrote ≡ wrote.Refused (refusal.Room n)) ↔
+      ((take_of f piece out).wrote ≡ Err (refusal.Room n)) ↔
       ((valid_follower f ≡ true) × (before LF piece < length piece) ×
       (length out < length (tell_at f.runs (event_in f (take (before LF piece) piece))).text) ×
       (n ≡ length (tell_at f.runs (event_in f (take (before LF piece) piece))).text))
   -- a refusal uses no byte and changes nothing
-  pub take_same : (f : Follower) (piece out : List ℕ) (x : Refusal) → (take_of f piece out).wrote ≡ wrote.Refused x →
+  pub take_same : (f : Follower) (piece out : List ℕ) (x : Refusal) → (take_of f piece out).wrote ≡ Err x →
       ((take_of f piece out).used ≡ 0) × ((take_of f piece out).follower ≡ f) × (take_leaves f piece out ≡ out)
-  pub close_same : (f : Follower) (out : List ℕ) (x : Refusal) → (close_of f out).wrote ≡ wrote.Refused x →
+  pub close_same : (f : Follower) (out : List ℕ) (x : Refusal) → (close_of f out).wrote ≡ Err x →
       ((close_of f out).follower ≡ f) × (close_leaves f out ≡ out)
   -- a close is refused in the same cases
-  pub close_16 : (f : Follower) (out : List ℕ) → ((close_of f out).wrote ≡ wrote.Refused refusal.State) ↔ ((valid_runs f.runs ≡ false) ⊎ (138 < f.text.len))
+  pub close_16 : (f : Follower) (out : List ℕ) → ((close_of f out).wrote ≡ Err refusal.State) ↔ ((valid_runs f.runs ≡ false) ⊎ (138 < f.text.len))
   pub close_2 : (f : Follower) (out : List ℕ) (n : ℕ) →
-      ((close_of f out).wrote ≡ wrote.Refused (refusal.Room n)) ↔
+      ((close_of f out).wrote ≡ Err (refusal.Room n)) ↔
       ((valid_follower f ≡ true) × (f.text.len ≢ 0) × (length out < length (tell_at f.runs (event_held f)).text) ×
       (n ≡ length (tell_at f.runs (event_held f)).text))
-  pub close_goes_on : (f : Follower) (out : List ℕ) → valid_follower f ≡ true → 2997 ≤ length out → (n : ℕ) × ((close_of f out).wrote ≡ wrote.Count n)
+  pub close_goes_on : (f : Follower) (out : List ℕ) → valid_follower f ≡ true → 2997 ≤ length out → (n : ℕ) × ((close_of f out).wrote ≡ Ok n)
   pub close_valid : (f : Follower) (out : List ℕ) → valid_follower f ≡ true → valid_follower (close_of f out).follower ≡ true
   -- no call uses more than its piece or prints more than the memory holds; one that is not refused uses some of its piece
   pub within : (f : Follower) (piece out : List ℕ) → (take_of f piece out).used ≤ length piece
-  pub fits : (f : Follower) (piece out : List ℕ) (n : ℕ) → (take_of f piece out).wrote ≡ wrote.Count n → n ≤ length out
-  pub uses_some : (f : Follower) (piece out : List ℕ) (n : ℕ) → (take_of f piece out).wrote ≡ wrote.Count n → 0 < length piece → 0 < (take_of f piece out).used
+  pub fits : (f : Follower) (piece out : List ℕ) (n : ℕ) → (take_of f piece out).wrote ≡ Ok n → n ≤ length out
+  pub uses_some : (f : Follower) (piece out : List ℕ) (n : ℕ) → (take_of f piece out).wrote ≡ Ok n → 0 < length piece → 0 < (take_of f piece out).used
   -- with room for 999 slots a follower of ours is not refused, and stays one
-  pub goes_on : (f : Follower) (piece out : List ℕ) → valid_follower f ≡ true → 2997 ≤ length out → (n : ℕ) × ((take_of f piece out).wrote ≡ wrote.Count n)
+  pub goes_on : (f : Follower) (piece out : List ℕ) → valid_follower f ≡ true → 2997 ≤ length out → (n : ℕ) × ((take_of f piece out).wrote ≡ Ok n)
   pub kept_valid : (f : Follower) (piece out : List ℕ) → valid_follower f ≡ true → valid_follower (take_of f piece out).follower ≡ true
 
 -- ---- the calls are the entries: what each contract leaves
@@ -138,5 +136,5 @@ pub record Entries : Type 0 where
   pub take : (f : Follower) (piece out : List ℕ) (r : Followed) (after : List ℕ) → FollowerTake f piece out r after →
       (r ≡ take_of f piece out) × (after ≡ take_leaves f piece out)
   pub close : (f : Follower) (out : List ℕ) (r : Followed) (after : List ℕ) → FollowerClose f out r after → (r ≡ close_of f out) × (after ≡ close_leaves f out)
-  pub count : (r : Runs) (out : List ℕ) (w : Wrote) (after : List ℕ) → RunsCount r out w after → (w ≡ count_both r out) × (after ≡ count_both_leaves r out)
+  pub count : (r : Runs) (out : List ℕ) (w : Answer ℕ) (after : List ℕ) → RunsCount r out w after → (w ≡ count_both r out) × (after ≡ count_both_leaves r out)
   pub is_over_lem : (r : Runs) (b : Bool) → RunsIsOver r b → b ≡ are_over r

@@ -6,14 +6,13 @@ ghost use Rattle.runs.specs.Runs.{event_at};
 ghost use Rattle.follow.specs.Follow.{blank_text, valid_text, held_in, joined_text, followed_by};
 ghost use Rattle.follow.specs.Clauses.{FollowerStart, FollowerIsValid, FollowerTake, FollowerClose};
 
-use frame::Wrote;
-use refusal::{Refusal, Verdict};
+use refusal::Refusal;
 use runs::{Addressed, Runs, ToldAt};
 
 // The bytes that are kept of a line: one more than a line of an event has at most.
 pub const HELD_LENGTH: usize = 138;
 
-// The first bytes of the line that is coming in.
+// The first bytes of the line that is coming in. (With a count of its own, since one past the buffer is refused by 16: valid_text.)
 #[derive(Clone, Copy)]
 pub struct Text {
     pub bytes: [u8; HELD_LENGTH],
@@ -31,7 +30,7 @@ pub struct Follower {
 // What a start hands back.
 #[derive(Clone, Copy)]
 pub struct Begun {
-    pub verdict: Verdict,
+    pub verdict: Result<(), Refusal>,
     pub follower: Follower,
 }
 
@@ -39,7 +38,7 @@ pub struct Begun {
 #[derive(Clone, Copy)]
 pub struct Followed {
     // How many bytes it printed; 16, then 2.
-    pub wrote: Wrote,
+    pub wrote: Result<usize, Refusal>,
     // How many bytes of the piece were taken.
     pub used: usize,
     pub follower: Follower,
@@ -68,15 +67,13 @@ impl Text {
         ensures { result ≡ joined_text self part.now }
     {
         let mut text = self;
-        let mut i = 0;
-        while i < part.len() {
+        for b in part {
             let at = text.len;
             if HELD_LENGTH <= at {
                 return text;
             }
-            text.bytes[at] = part[i];
+            text.bytes[at] = *b;
             text.len = at + 1;
-            i += 1;
         }
         text
     }
@@ -90,9 +87,7 @@ impl Text {
             return runs::event_at(ports, part);
         }
         let text = self.joined(part);
-        let bytes = text.bytes;
-        let len = text.len;
-        runs::event_at(ports, &bytes[0..len])
+        runs::event_at(ports, &text.bytes[..text.len])
     }
 }
 
@@ -102,12 +97,10 @@ impl Follower {
         ensures { FollowerStart letter ports result }
     {
         let begun = Runs::start(letter);
-        let verdict = begun.verdict;
-        let runs = begun.runs;
         Begun {
-            verdict,
+            verdict: begun.verdict,
             follower: Follower {
-                runs,
+                runs: begun.runs,
                 text: Text::blank(),
                 ports,
             },
@@ -118,9 +111,7 @@ impl Follower {
     pub fn is_valid(self) -> bool
         ensures { FollowerIsValid self result }
     {
-        let runs = self.runs;
-        let text = self.text;
-        runs.is_valid() & text.is_kept()
+        self.runs.is_valid() && self.text.is_kept()
     }
 
     // The follower once a line was told: no line yet, or, where that was refused, the old one.
@@ -128,19 +119,18 @@ impl Follower {
         ensures { result ≡ followed_by self told used }
     {
         let wrote = told.wrote;
-        let runs = told.runs;
         match wrote {
-            Wrote::Count(n) => Followed {
-                wrote: Wrote::Count(n),
+            Ok(_) => Followed {
+                wrote,
                 used,
                 follower: Follower {
-                    runs,
+                    runs: told.runs,
                     text: Text::blank(),
-                    ports: self.ports,
+                    ..self
                 },
             },
-            Wrote::Refused(r) => Followed {
-                wrote: Wrote::Refused(r),
+            Err(_) => Followed {
+                wrote,
                 used: 0,
                 follower: self,
             },
@@ -153,26 +143,24 @@ impl Follower {
     {
         if !self.is_valid() {
             return Followed {
-                wrote: Wrote::Refused(Refusal::State),
+                wrote: Err(Refusal::State),
                 used: 0,
                 follower: self,
             };
         }
         let end = capture::bytes_before(piece, b'\n');
-        let runs = self.runs;
-        let text = self.text;
         if end == piece.len() {
             return Followed {
-                wrote: Wrote::Count(0),
+                wrote: Ok(0),
                 used: end,
                 follower: Follower {
-                    runs,
-                    text: text.joined(piece),
-                    ports: self.ports,
+                    text: self.text.joined(piece),
+                    ..self
                 },
             };
         }
-        let told = runs.tell(text.event(self.ports, &piece[0..end]), out);
+        let addressed = self.text.event(self.ports, &piece[..end]);
+        let told = self.runs.tell(addressed, out);
         self.followed(told, end + 1)
     }
 
@@ -182,21 +170,20 @@ impl Follower {
     {
         if !self.is_valid() {
             return Followed {
-                wrote: Wrote::Refused(Refusal::State),
+                wrote: Err(Refusal::State),
                 used: 0,
                 follower: self,
             };
         }
-        let runs = self.runs;
-        let text = self.text;
-        if text.len == 0 {
+        if self.text.len == 0 {
             return Followed {
-                wrote: Wrote::Count(0),
+                wrote: Ok(0),
                 used: 0,
                 follower: self,
             };
         }
-        let told = runs.tell(text.event(self.ports, b""), out);
+        let addressed = self.text.event(self.ports, b"");
+        let told = self.runs.tell(addressed, out);
         self.followed(told, 0)
     }
 }

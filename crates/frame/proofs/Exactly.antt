@@ -10,13 +10,12 @@ use borrow.Author.Tests.{eqb-true, eq-eqb}
 use lib.ListN.{length, take, drop, get_or, length-append, length-take, length-drop, take-append-drop}
 use lib.Seq.{take_at, get_or-drop, get_or-append-add, drop-drop}
 use lib.Dec.{eqb}
+use Rattle.std.specs.Prelude.{Err, Ok}
 use Rattle.laws.specs.Member.{◌∈◌}
 use Rattle.laws.proofs.MemberLaws.{as_member, the_only, map_in, in_map}
 use Rattle.laws.proofs.Tests.{and_left, and_right, and_both, told, never}
 use Rattle.laws.proofs.ListLaws.{two_is}
-use Rattle.refusal.specs.Answer.{Answer, accepted}
-use Rattle.refusal.specs.declared.Verdict.{Verdict}
-use Rattle.refusal.specs.declared.Verdict.TheVariants.{Done, Refused}
+use Rattle.refusal.specs.Answer.{Answer, Verdict}
 use Rattle.codec.specs.Codec.{Got, got, wrong, Codec, spellings}
 use Rattle.codec.proofs.Exact.{Exact, spelt_read}
 use Rattle.frame.specs.Frame.{sum_of, ending, ending_width, framed, is_ended, sums, opening}
@@ -24,12 +23,12 @@ use Rattle.frame.specs.Message.{found, afterwards, read_of, message_of, messages
 
 -- ---- what the small words say
 
-afterwards_is : {A : Type 0} (v : Verdict) (k : Answer A) (a : A) → afterwards v k ≡ accepted a → (v ≡ Done) × (k ≡ accepted a)
+afterwards_is : {A : Type 0} (v : Verdict) (k : Answer A) (a : A) → afterwards v k ≡ Ok a → (v ≡ Ok tt) × (k ≡ Ok a)
 unfolding afterwards
-afterwards_is Done k a e = (refl, e)
-afterwards_is (Refused r) k a e = never (cc)
+afterwards_is (Ok tt) k a e = (refl, e)
+afterwards_is (Err r) k a e = never (cc)
 
-found_is : {A : Type 0} (q : Got A) (a : A) → found q ≡ accepted a → q ≡ got a
+found_is : {A : Type 0} (q : Got A) (a : A) → found q ≡ Ok a → q ≡ got a
 unfolding found
 found_is (got b) a e = cc
 found_is (wrong i) a e = never (cc)
@@ -40,7 +39,7 @@ pub record Opens (checksum : Bool) (w : ℕ) (m : List ℕ) : Type 0 where
   pub ended : is_ended m ≡ true
   pub summed : checksum ≡ true → sums w m ≡ true
 
-pub opens : (checksum : Bool) (w : ℕ) (m : List ℕ) → opening checksum w m ≡ Done → Opens checksum w m
+pub opens : (checksum : Bool) (w : ℕ) (m : List ℕ) → opening checksum w m ≡ Ok tt → Opens checksum w m
 unfolding opening
 opens checksum w m e =
     told (eqb (length m) (w + ending_width checksum))
@@ -54,7 +53,7 @@ opens checksum w m e =
     (λ n. never (cc (rw (l, n) at e))))
     (λ l. never (cc (rw l at e)))
 
-pub opened : (checksum : Bool) (w : ℕ) (m : List ℕ) → Opens checksum w m → opening checksum w m ≡ Done
+pub opened : (checksum : Bool) (w : ℕ) (m : List ℕ) → Opens checksum w m → opening checksum w m ≡ Ok tt
 unfolding opening
 opened true w m o = rw (eq-eqb _ _ o.long, o.ended, o.summed refl)
 opened false w m o = rw (eq-eqb _ _ o.long, o.ended)
@@ -149,18 +148,18 @@ framed_opens checksum w b l = record {
 
 module _ {A : Type 0} (c : Codec A) (x : Exact c) (checksum : Bool) where
   -- reading a spelling of sendable contents gives them back
-  reads_spelt : (a : A) (s : List ℕ) → c.lowest a ≡ 0 → s ∈ spellings c a → read_of c checksum (framed checksum s) ≡ accepted a
+  reads_spelt : (a : A) (s : List ℕ) → c.lowest a ≡ 0 → s ∈ spellings c a → read_of c checksum (framed checksum s) ≡ Ok a
   unfolding read_of afterwards found
   reads_spelt a s h k =
       let r = spelt_read x a s h k in
       rw (opened checksum c.width (framed checksum s) (framed_opens checksum c.width s r.0), take_at s (ending checksum s) c.width r.0, r.1)
 
   -- so does reading what was written
-  pub reads_written : (a : A) → c.lowest a ≡ 0 → read_of c checksum (message_of c checksum a) ≡ accepted a
+  pub reads_written : (a : A) → c.lowest a ≡ 0 → read_of c checksum (message_of c checksum a) ≡ Ok a
   reads_written a h = reads_spelt a (c.print a) h (inl refl)
 
   -- what is read is a spelling
-  pub reads_only : (m : List ℕ) (a : A) → read_of c checksum m ≡ accepted a → (c.lowest a ≡ 0) × (m ∈ messages_of c checksum a)
+  pub reads_only : (m : List ℕ) (a : A) → read_of c checksum m ≡ Ok a → (c.lowest a ≡ 0) × (m ∈ messages_of c checksum a)
   unfolding read_of
   reads_only m a e =
       let p = afterwards_is (opening checksum c.width m) _ a e in
@@ -173,13 +172,13 @@ module _ {A : Type 0} (c : Codec A) (x : Exact c) (checksum : Bool) where
       )
 
   -- accepted with these contents exactly where they are sendable and the message is one of their spellings, under its own checksum
-  pub exactly : (m : List ℕ) (a : A) → (read_of c checksum m ≡ accepted a) ↔ ((c.lowest a ≡ 0) × (m ∈ messages_of c checksum a))
+  pub exactly : (m : List ℕ) (a : A) → (read_of c checksum m ≡ Ok a) ↔ ((c.lowest a ≡ 0) × (m ∈ messages_of c checksum a))
   exactly m a = (reads_only m a, λ h. let s = in_map (framed checksum) (spellings c a) h.1 in ap (read_of c checksum) s.2 ∙ reads_spelt a s.0 h.0 s.1)
 
   -- no two contents share a message
   pub one_contents : (m : List ℕ) (a b : A) → c.lowest a ≡ 0 → c.lowest b ≡ 0 → m ∈ messages_of c checksum a → m ∈ messages_of c checksum b → a ≡ b
   one_contents m a b h k e f =
-      let p : accepted a ≡ accepted b = sym ((exactly m a).1 (h, e)) ∙ (exactly m b).1 (k, f) in
+      let p : Ok a ≡ Ok b = sym ((exactly m a).1 (h, e)) ∙ (exactly m b).1 (k, f) in
       cc
 
   -- contents that are spelt in one way have the writer's message only

@@ -5,5 +5,6 @@ pub mod Faithful
 pub mod Refuses
 pub mod Rooms
 pub mod Laid
+pub mod Pair
 pub mod Stands
 pub mod Unique

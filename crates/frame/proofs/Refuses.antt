@@ -11,12 +11,12 @@ use borrow.Author.Tests.{eqb-true, eqb-false, eq-eqb, ne_eqb, leb-true, leb-fals
 use lib.Dec.{eqb, leb}
 use lib.ListN.{length, take, length-append, take-append-drop}
 use lib.Seq.{take_at}
+use Rattle.std.specs.Prelude.{Err, Ok}
 use Rattle.laws.proofs.Tests.{told, never}
+use Rattle.refusal.specs.Answer.{unless}
 use Rattle.refusal.proofs.Answers.{refused_is}
-use Rattle.refusal.specs.Answer.{accepted, refused, unless}
 use Rattle.refusal.specs.declared.Refusal.{Refusal}
 use Rattle.refusal.specs.declared.Refusal.TheVariants.{Field, Room, Length, End, Checksum, Contents, Dropped, Setting, TooLong, Form, Lost, NoPort, State}
-use Rattle.refusal.specs.declared.Verdict.TheVariants.{Done, Refused}
 use Rattle.codec.specs.Codec.{Got, got, wrong, Codec, spellings}
 use Rattle.codec.specs.Places.{Place, FirstWrong}
 use Rattle.codec.proofs.Places.{one_first_wrong, none_wrong}
@@ -44,7 +44,7 @@ module _ (checksum : Bool) (w : ℕ) (m : List ℕ) where
   framed_of : Opens checksum w m → m ≡ framed checksum (take w m)
   framed_of o = sym (take-append-drop w m) ∙ ap (λ (t : List ℕ). take w m ++ t) (ending_is checksum w m o)
 
-  wrong_length : (length m ≢ w + ending_width checksum) → opening checksum w m ≡ Refused (Length (length m))
+  wrong_length : (length m ≢ w + ending_width checksum) → opening checksum w m ≡ Err (Length (length m))
   unfolding opening
   wrong_length n = rw (ne_eqb _ _ n)
 
@@ -55,7 +55,7 @@ module _ (checksum : Bool) (w : ℕ) (m : List ℕ) where
         let o : Opens false (length m - 2) m = record { long = omega (arith, ending_two checksum, long); ended = e; summed = λ on. never (cc) } in
         (take (length m - 2) m, sym (take-append-drop (length m - 2) m) ∙ ap (λ (t : List ℕ). take (length m - 2) m ++ t) (ending_is false (length m - 2) m o))
 
-    wrong_end : (Ended m → ⊥) → opening checksum w m ≡ Refused End
+    wrong_end : (Ended m → ⊥) → opening checksum w m ≡ Err End
     unfolding opening
     wrong_end n =
         told (is_ended m)
@@ -65,14 +65,14 @@ module _ (checksum : Bool) (w : ℕ) (m : List ℕ) where
     pub contents_long : (b : List ℕ) → m ≡ framed checksum b → length b ≡ w
     contents_long b e = let n = ap length e ∙ length-append b (ending checksum b) ∙ ap (λ (k : ℕ). length b + k) (ending_long checksum b) in omega arith
 
-    wrong_sum : checksum ≡ true → Ended m → (Framed checksum m → ⊥) → opening checksum w m ≡ Refused Checksum
+    wrong_sum : checksum ≡ true → Ended m → (Framed checksum m → ⊥) → opening checksum w m ≡ Err Checksum
     unfolding opening
     wrong_sum on e n =
         told (sums w m)
         (λ y. absurd (n (take w m, framed_of (record { long = long; ended = ended_tested e; summed = λ o. y }))))
         (λ f. rw (eq-eqb _ _ long, ended_tested e, on, f))
 
-    right : (b : List ℕ) → m ≡ framed checksum b → opening checksum w m ≡ Done
+    right : (b : List ℕ) → m ≡ framed checksum b → opening checksum w m ≡ Ok tt
     right b e = ap (opening checksum w) e ∙ opened checksum w (framed checksum b) (framed_opens checksum w b (contents_long b e))
 
     -- contents with a wrong checksum are not framed
@@ -110,10 +110,10 @@ module _ {A : Type 0} (c : Codec A) (rule : A → ℕ) (w : ℕ) (places : List 
         reads_on c w wide checksum m (right checksum w m l b e)
         ∙ ap (λ (s : List ℕ). found (c.parse s)) (ap (take w) e ∙ take_at b (ending checksum b) w (contents_long checksum w m l b e))
 
-    read_given : (r : Refusal) → When r → read_of c checksum m ≡ refused r
+    read_given : (r : Refusal) → When r → read_of c checksum m ≡ Err r
     unfolding found
     read_given (Length n) h =
-        reads_refused c w wide checksum m (Length n) (wrong_length checksum w m (λ e. h.0 (e ∙ sym long_is)) ∙ ap (λ (k : ℕ). Refused (Length k)) (sym h.1))
+        reads_refused c w wide checksum m (Length n) (wrong_length checksum w m (λ e. h.0 (e ∙ sym long_is)) ∙ ap (λ (k : ℕ). Err (Length k)) (sym h.1))
     read_given End h = reads_refused c w wide checksum m End (wrong_end checksum w m (h.0 ∙ long_is) h.1)
     read_given Checksum h = reads_refused c w wide checksum m Checksum (wrong_sum checksum w m (h.1 ∙ long_is) h.0 h.2 h.3)
     read_given (Contents i) h =
@@ -131,14 +131,14 @@ module _ {A : Type 0} (c : Codec A) (rule : A → ℕ) (w : ℕ) (places : List 
     read_given State h = absurd h
 
     -- a reader that refuses has a case
-    module _ (r : Refusal) (e : read_of c checksum m ≡ refused r) where
+    module _ (r : Refusal) (e : read_of c checksum m ≡ Err r) where
       so : (q : Refusal) → When q → When r
       so q h = subst When (refused_is (sym (read_given q h) ∙ e)) h
 
       -- the message is framed right: the contents are wrong
       then_contents : (l : length m ≡ w + ending_width checksum) (f : m ≡ framed checksum (take w m)) (q : Got A) → c.parse (take w m) ≡ q → When r
       unfolding found
-      then_contents l f (got a) p = let z : accepted a ≡ refused r = ap found (sym p) ∙ sym (contents_read (take w m) l f) ∙ e in never (cc)
+      then_contents l f (got a) p = let z : Ok a ≡ Err r = ap found (sym p) ∙ sym (contents_read (take w m) l f) ∙ e in never (cc)
       then_contents l f (wrong i) p = so (Contents i) (take w m, f, l ∙ sym long_is, said_wrong (take w m) i (contents_long checksum w m l (take w m) f) p)
 
       then_summed : length m ≡ w + ending_width checksum → is_ended m ≡ true → (checksum ≡ true → sums w m ≡ true) → When r
@@ -167,15 +167,15 @@ module _ {A : Type 0} (c : Codec A) (rule : A → ℕ) (low : ℕ → Refusal) (
   abbrev n : ℕ
   n = length_by checksum plain
 
-  out_of_range : rule a ≢ 0 → write_of c low checksum a out ≡ refused (low (rule a))
+  out_of_range : rule a ≢ 0 → write_of c low checksum a out ≡ Err (low (rule a))
   unfolding write_of then_write checked unless
   out_of_range h = rw (same a, ne_eqb (rule a) 0 h)
 
-  too_short : rule a ≡ 0 → length out < n → write_of c low checksum a out ≡ refused (Room n)
+  too_short : rule a ≡ 0 → length out < n → write_of c low checksum a out ≡ Err (Room n)
   unfolding write_of then_write checked unless room_for
   too_short h k = rw (same a, h, long, lt-leb n (length out) k)
 
-  fits : rule a ≡ 0 → n ≤ length out → write_of c low checksum a out ≡ accepted n
+  fits : rule a ≡ 0 → n ≤ length out → write_of c low checksum a out ≡ Ok n
   unfolding write_of then_write checked unless room_for
   fits h k = rw (same a, h, long, le-leb n (length out) k)
 
@@ -189,23 +189,23 @@ module _ {A : Type 0} (c : Codec A) (rule : A → ℕ) (low : ℕ → Refusal) (
       (λ k. g (eqb-true _ _ y) (leb-false _ _ k)))
       (λ y. f (eqb-false _ _ y))
 
-  write_refused : (r : Refusal) → write_of c low checksum a out ≡ refused r → WriteWhen rule low plain checksum a out r
+  write_refused : (r : Refusal) → write_of c low checksum a out ≡ Err r → WriteWhen rule low plain checksum a out r
   write_refused r e =
       written
       (λ h. inl (h, refused_is (sym e ∙ out_of_range h)))
       (λ h k. inr (h, k, refused_is (sym e ∙ too_short h k)))
-      (λ h k. let z : refused r ≡ accepted n = sym e ∙ fits h k in never (cc))
+      (λ h k. let z : Err r ≡ Ok n = sym e ∙ fits h k in never (cc))
 
-  refused_write : (r : Refusal) → WriteWhen rule low plain checksum a out r → write_of c low checksum a out ≡ refused r
-  refused_write r (inl h) = out_of_range h.0 ∙ ap refused (sym h.1)
-  refused_write r (inr h) = too_short h.0 h.1 ∙ ap refused (sym h.2)
+  refused_write : (r : Refusal) → WriteWhen rule low plain checksum a out r → write_of c low checksum a out ≡ Err r
+  refused_write r (inl h) = out_of_range h.0 ∙ ap Err (sym h.1)
+  refused_write r (inr h) = too_short h.0 h.1 ∙ ap Err (sym h.2)
 
-  write_accepted : (k : ℕ) → write_of c low checksum a out ≡ accepted k → (rule a ≡ 0) × (n ≤ length out) × (k ≡ n)
+  write_accepted : (k : ℕ) → write_of c low checksum a out ≡ Ok k → (rule a ≡ 0) × (n ≤ length out) × (k ≡ n)
   write_accepted k e =
       written
-      (λ h. let z : accepted k ≡ refused (low (rule a)) = sym e ∙ out_of_range h in never (cc))
-      (λ h l. let z : accepted k ≡ refused (Room n) = sym e ∙ too_short h l in never (cc))
-      (λ h l. (h, l, (let z : accepted k ≡ accepted n = sym e ∙ fits h l in cc)))
+      (λ h. let z : Ok k ≡ Err (low (rule a)) = sym e ∙ out_of_range h in never (cc))
+      (λ h l. let z : Ok k ≡ Err (Room n) = sym e ∙ too_short h l in never (cc))
+      (λ h l. (h, l, (let z : Ok k ≡ Ok n = sym e ∙ fits h l in cc)))
 
 -- ---- the theorem
 
@@ -221,6 +221,6 @@ refuses {A} c rule low w places u same wide =
       );
       writes_when = λ checksum a out n. (
         write_accepted c rule low (w + 2) same checksum a out (long checksum) n,
-        λ h. fits c rule low (w + 2) same checksum a out (long checksum) h.0 h.1 ∙ ap accepted (sym h.2),
+        λ h. fits c rule low (w + 2) same checksum a out (long checksum) h.0 h.1 ∙ ap Ok (sym h.2),
       );
     }

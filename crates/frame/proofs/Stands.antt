@@ -7,11 +7,10 @@ use mathlib.Core.Path.{◌≡◌, ap, ◌∙◌}
 use borrow.Author.Tests.{eqb-true}
 use lib.Dec.{eqb}
 use Rattle.laws.proofs.Tests.{told}
-use Rattle.refusal.specs.Answer.{unless}
+use Rattle.refusal.specs.Answer.{Answer, unless}
 use Rattle.refusal.specs.declared.Refusal.{Refusal}
 use Rattle.codec.specs.Codec.{Codec}
 use Rattle.frame.specs.Message.{checked, write_of, left_by, WritesMessage}
-use Rattle.frame.specs.declared.Wrote.{Wrote}
 
 -- f is out of range by the same field or item as a, or is a
 pub record StandsFor {A : Type 0} (form : Codec A) (f a : A) : Type 0 where
@@ -23,6 +22,6 @@ module _ {A : Type 0} (form : Codec A) (low : ℕ → Refusal) (checksum : Bool)
   unfolding checked unless
   checked_alike = told (eqb (form.lowest a) 0) (λ y. ap (checked form low) (stands.same (eqb-true _ _ y))) (λ n. rw (stands.alike, n))
 
-  pub writes_alike : {w : Wrote} {after : List ℕ} → WritesMessage form low checksum f d w after → WritesMessage form low checksum a d w after
+  pub writes_alike : {w : Answer ℕ} {after : List ℕ} → WritesMessage form low checksum f d w after → WritesMessage form low checksum a d w after
   unfolding write_of left_by
   writes_alike p = record { answers = p.answers ∙ rw checked_alike; leaves = p.leaves ∙ rw checked_alike }

@@ -4,10 +4,9 @@ use mathlib.Core.Bool.{Bool}
 use mathlib.Core.List.{List}
 use mathlib.Core.Path.{◌≡◌}
 use Rattle.laws.proofs.OneAnswer.{one_answer}
-use Rattle.refusal.specs.declared.Verdict.{Verdict}
+use Rattle.refusal.specs.Answer.{Answer, Verdict}
 use Rattle.frame.specs.Clauses.{SumOf, EndingWidth, RoomFor, PutEnding, Open}
 use Rattle.frame.specs.declared.Sum.{Sum}
-use Rattle.frame.specs.declared.Wrote.{Wrote}
 
 pub one_sum_of : (s : List ℕ) {r r' : Sum} → SumOf s r → SumOf s r' → r ≡ r'
 one_sum_of s = one_answer
@@ -15,7 +14,7 @@ one_sum_of s = one_answer
 pub one_ending_width : (checksum : Bool) {r r' : ℕ} → EndingWidth checksum r → EndingWidth checksum r' → r ≡ r'
 one_ending_width checksum = one_answer
 
-pub one_room_for : (len width : ℕ) (checksum : Bool) {r r' : Wrote} → RoomFor len width checksum r → RoomFor len width checksum r' → r ≡ r'
+pub one_room_for : (len width : ℕ) (checksum : Bool) {r r' : Answer ℕ} → RoomFor len width checksum r → RoomFor len width checksum r' → r ≡ r'
 one_room_for len width checksum = one_answer
 
 pub one_put_ending : (out : List ℕ) (n : ℕ) (checksum : Bool) {after after' : List ℕ} →

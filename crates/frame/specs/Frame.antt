@@ -1,9 +1,8 @@
 -- What stands behind the contents of a message, and what is tested of it before the contents are read.
-use Rattle.std.specs.Prelude.{ℕ, ◌+◌, ◌-◌, ◌/◌, ◌%◌, List, [], ◌∷◌, ◌++◌, Bool, true, false, ◌&&◌, cond, length, take, get_or, eqb}
+use Rattle.std.specs.Prelude.{ℕ, ◌+◌, ◌-◌, ◌/◌, ◌%◌, List, [], ◌∷◌, ◌++◌, Bool, true, false, ◌&&◌, cond, length, take, get_or, eqb, Err, Ok}
 use Rattle.std.specs.Int.Bits.{bit_xor}
+use Rattle.refusal.specs.Answer.{Verdict}
 use Rattle.refusal.specs.declared.Refusal.TheVariants.{Length, End, Checksum}
-use Rattle.refusal.specs.declared.Verdict.{Verdict}
-use Rattle.refusal.specs.declared.Verdict.TheVariants.{Done, Refused}
 use Rattle.frame.specs.declared.Sum.{Sum}
 
 -- the exclusive-or of a start and each byte
@@ -39,5 +38,5 @@ sums w m = eqb (get_or m w 0) (sum_of (take w m)).high && eqb (get_or m (w + 1) 
 unfoldable pub opening : Bool → ℕ → List ℕ → Verdict
 opening checksum w m =
     cond (eqb (length m) (w + ending_width checksum))
-    (cond (is_ended m) (cond checksum (cond (sums w m) Done (Refused Checksum)) Done) (Refused End))
-    (Refused (Length (length m)))
+    (cond (is_ended m) (cond checksum (cond (sums w m) (Ok tt) (Err Checksum)) (Ok tt)) (Err End))
+    (Err (Length (length m)))

@@ -1,7 +1,6 @@
 -- When a message's reader and writer refuse, for any codec: document 01's table of refusal numbers, each given exactly in its case and with its value.
 -- Statements only; `rule`, `low` and `plain` are as in `Faithful`, and `places` says where the fields or items stand in the contents.
-use Rattle.std.specs.Prelude.{ℕ, ◌+◌, ◌≤◌, ◌<◌, Bool, true, cond, List, [], ◌∷◌, ◌++◌, ◌↔◌, ◌≢◌, ◌⊎◌, ◌≡◌, length}
-use Rattle.refusal.specs.Answer.{accepted, refused}
+use Rattle.std.specs.Prelude.{ℕ, ◌+◌, ◌≤◌, ◌<◌, Bool, true, cond, List, [], ◌∷◌, ◌++◌, ◌↔◌, ◌≢◌, ◌⊎◌, ◌≡◌, length, Err, Ok}
 use Rattle.refusal.specs.declared.Refusal.{Refusal}
 use Rattle.refusal.specs.declared.Refusal.TheVariants.{Field, Room, Length, End, Checksum, Contents, Dropped, Setting, TooLong, Form, Lost, NoPort, State}
 use Rattle.codec.specs.Codec.{Codec, spellings}
@@ -52,9 +51,9 @@ WriteWhen rule low plain checksum a out r =
     ((rule a ≢ 0) × (r ≡ low (rule a))) ⊎ ((rule a ≡ 0) × (length out < length_by checksum plain) × (r ≡ Room (length_by checksum plain)))
 
 pub record Refuses {A : Type 0} (c : Codec A) (rule : A → ℕ) (low : ℕ → Refusal) (plain : ℕ) (places : List Place) : Type 0 where
-  pub read_when : (checksum : Bool) (m : List ℕ) (r : Refusal) → (read_of c checksum m ≡ refused r) ↔ ReadWhen rule (spellings c) places plain checksum m r
+  pub read_when : (checksum : Bool) (m : List ℕ) (r : Refusal) → (read_of c checksum m ≡ Err r) ↔ ReadWhen rule (spellings c) places plain checksum m r
   pub write_when : (checksum : Bool) (a : A) (out : List ℕ) (r : Refusal) →
-      (write_of c low checksum a out ≡ refused r) ↔ WriteWhen rule low plain checksum a out r
+      (write_of c low checksum a out ≡ Err r) ↔ WriteWhen rule low plain checksum a out r
   -- "where no case holds, the entry does its work": it needs no byte more than the message
   pub writes_when : (checksum : Bool) (a : A) (out : List ℕ) (n : ℕ) →
-      (write_of c low checksum a out ≡ accepted n) ↔ ((rule a ≡ 0) × (length_by checksum plain ≤ length out) × (n ≡ length_by checksum plain))
+      (write_of c low checksum a out ≡ Ok n) ↔ ((rule a ≡ 0) × (length_by checksum plain ≤ length out) × (n ≡ length_by checksum plain))

@@ -6,7 +6,7 @@ ghost use Rattle.std.specs.Prelude.{◌≡◌, ◌+◌, ◌≤◌, eqb, length};
 ghost use Rattle.frame.specs.Frame.{xor_from, ending_width, is_ended, sums};
 ghost use Rattle.frame.specs.Clauses.{SumOf, EndingWidth, RoomFor, PutEnding, Open};
 
-use refusal::{Refusal, Verdict};
+use refusal::Refusal;
 
 // The two characters of a checksum.
 #[derive(Clone, Copy)]
@@ -15,22 +15,13 @@ pub struct Sum {
     pub low: u8,
 }
 
-// What a writer of a message answers: the count of bytes written, or the refusal that wrote none.
-#[derive(Clone, Copy)]
-pub enum Wrote {
-    Count(usize),
-    Refused(Refusal),
-}
-
 // The exclusive-or of FF hex and each byte.
 fn xor_of(s: &[u8]) -> u8
     ensures { result ≡ xor_from 255 s.now }
 {
     let mut x: u8 = 255;
-    let mut i = 0;
-    while i < s.len() {
-        x = x ^ s[i];
-        i += 1;
+    for &byte in s {
+        x ^= byte;
     }
     x
 }
@@ -54,14 +45,14 @@ pub fn ending_width(checksum: bool) -> usize
 }
 
 // Whether a message whose contents take width bytes fits into a memory of len: what its writer answers.
-pub fn room_for(len: usize, width: u32, checksum: bool) -> Wrote
+pub fn room_for(len: usize, width: u32, checksum: bool) -> Result<usize, Refusal>
     ensures { RoomFor len width checksum result }
 {
     let n = width as usize + ending_width(checksum);
     if len < n {
-        return Wrote::Refused(Refusal::Room(n));
+        return Err(Refusal::Room(n));
     }
-    Wrote::Count(n)
+    Ok(n)
 }
 
 // Ends the message whose contents are the first n bytes.
@@ -84,11 +75,7 @@ pub fn put_ending(out: &mut [u8], n: usize, checksum: bool)
 fn has_length(n: usize, width: usize, checksum: bool) -> bool
     ensures { result ≡ eqb n (width + ending_width checksum) }
 {
-    let e = ending_width(checksum);
-    if n < e {
-        return false;
-    }
-    n - e == width
+    n.checked_sub(ending_width(checksum)) == Some(width)
 }
 
 // Whether the last two bytes are LF CR.
@@ -96,8 +83,7 @@ fn is_ended(m: &[u8]) -> bool
     requires { 2 ≤ length m.now }
     ensures { result ≡ is_ended m.now }
 {
-    let n = m.len();
-    (m[n - 2] == b'\n') & (m[n - 1] == b'\r')
+    m.ends_with(b"\n\r")
 }
 
 // Whether the checksum of the first width bytes stands behind them.
@@ -105,26 +91,26 @@ fn is_summed(m: &[u8], width: usize) -> bool
     requires { width + 2 ≤ length m.now }
     ensures { result ≡ sums width m.now }
 {
-    let sum = sum_of(&m[0..width]);
-    (m[width] == sum.high) & (m[width + 1] == sum.low)
+    let sum = sum_of(&m[..width]);
+    m[width..width + 2] == [sum.high, sum.low]
 }
 
 // Opens a message whose contents take width bytes: its length, its end and its checksum, in this order.
-pub fn open(m: &[u8], width: usize, checksum: bool) -> Verdict
+pub fn open(m: &[u8], width: usize, checksum: bool) -> Result<(), Refusal>
     ensures { Open m.now width checksum result }
 {
     let n = m.len();
     if !has_length(n, width, checksum) {
-        return Verdict::Refused(Refusal::Length(n));
+        return Err(Refusal::Length(n));
     }
     if !is_ended(m) {
-        return Verdict::Refused(Refusal::End);
+        return Err(Refusal::End);
     }
     if !checksum {
-        return Verdict::Done;
+        return Ok(());
     }
     if !is_summed(m, width) {
-        return Verdict::Refused(Refusal::Checksum);
+        return Err(Refusal::Checksum);
     }
-    Verdict::Done
+    Ok(())
 }

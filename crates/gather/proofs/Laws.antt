@@ -6,7 +6,9 @@ use mathlib.Core.Path.{◌≡◌, refl, sym, ◌∙◌}
 use native.Mathlib.Omega.{arith}
 use lib.ListN.{length, take, drop, length-drop}
 use lib.Seq.{take-take, drop-drop, length-take-le}
+use Rattle.std.specs.Prelude.{Err, Ok, Result}
 use Rattle.laws.proofs.ListLaws.{drop_of_take, last_part}
+use Rattle.refusal.specs.declared.Wrong.{Wrong}
 use Rattle.codec.specs.Codec.{Codec, Got, got, wrong, passed, both, mapped, filled, text_behind, ◌⊗◌, via_iso, parsed}
 use Rattle.codec.proofs.Texts.{filled_whole}
 use Rattle.codec.proofs.Fields.{parsed_whole, parsed_other}
@@ -15,8 +17,6 @@ use Rattle.record.specs.declared.Figures.{Figures}
 use Rattle.record.specs.declared.Record.{Record}
 use Rattle.serial.proofs.Field.{serial_read}
 use Rattle.gather.specs.Gather.{eleven_says, record_with, record_says}
-use Rattle.gather.specs.declared.Eleven.{Eleven}
-use Rattle.gather.specs.declared.Eleven.TheVariants.{Found, Wrong}
 
 -- ---- with the serial
 
@@ -24,12 +24,12 @@ serial_width : serial.width ≡ 10
 unfolding serial
 serial_width = refl
 
-module _ {e : Eleven} (s : List ℕ) where
-  pub figures_wrong : {i : ℕ} → e ≡ Wrong i → record_says e s ≡ wrong i
+module _ {e : Result Figures Wrong} (s : List ℕ) where
+  pub figures_wrong : {w : Wrong} → e ≡ Err w → record_says e s ≡ wrong w.0
   unfolding record_says eleven_says both mapped
   figures_wrong h = rw h
 
-  module _ {f : Figures} (h : e ≡ Found f) where
+  module _ {f : Figures} (h : e ≡ Ok f) where
     pub serial_short : (length s ≡ 10 → ⊥) → record_says e s ≡ wrong 12
     unfolding record_says eleven_says both mapped
     serial_short n = rw (h, parsed_other serial 12 serial_width s n)
@@ -58,7 +58,7 @@ cut s n m h = length-take-le m (drop n s) (simp length-drop (omega arith))
 
 module _ (front : Codec Front) (middle : Codec Middle) (back : Codec Back) (i j k : ℕ) (p : front.width ≡ i) (q : middle.width ≡ j) (r : back.width ≡ k) (s : List ℕ) where
   -- three groups alone: what was read of them and gathered
-  pub figures_found : {f : Got Front} {m : Got Middle} {b : Got Back} (e : Eleven) → length s ≡ i + (j + k) →
+  pub figures_found : {f : Got Front} {m : Got Middle} {b : Got Back} (e : Result Figures Wrong) → length s ≡ i + (j + k) →
       f ≡ parsed front 1 (take i s) → m ≡ parsed middle 5 (take j (drop i s)) → b ≡ parsed back 9 (take k (drop (i + j) s)) →
       eleven_says e ≡ mapped figures_of (both f (both m b)) → eleven_says e ≡ (via_iso figures_of groups_of (front ⊗ (middle ⊗ back))).parse s
   figures_found e l x y z g =
@@ -98,7 +98,7 @@ module _ (front : Codec Front) (middle : Codec Middle) (back : Codec Back) (i j 
       (remade _ _)
 
   -- what was read of the parts and gathered
-  pub record_found : {f : Got Front} {m : Got Middle} {b : Got Back} (e : Eleven) →
+  pub record_found : {f : Got Front} {m : Got Middle} {b : Got Back} (e : Result Figures Wrong) →
       f ≡ parsed front 1 (take i s) → m ≡ parsed middle 5 (take j (drop i s)) → b ≡ parsed back 9 (take k (drop (i + j) s)) →
       eleven_says e ≡ mapped figures_of (both f (both m b)) → record_says e (take 10 (drop (i + (j + k)) s)) ≡ form.parse s
   unfolding record_says

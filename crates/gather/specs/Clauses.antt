@@ -1,17 +1,16 @@
 -- What each public function promises: its answer.
-use Rattle.std.specs.Prelude.{ℕ, List, ◌≡◌}
+use Rattle.std.specs.Prelude.{ℕ, List, ◌≡◌, Result}
+use Rattle.refusal.specs.declared.Wrong.{Wrong}
+use Rattle.record.specs.declared.Record.{Record}
+use Rattle.record.specs.declared.Figures.{Figures}
+use Rattle.refusal.specs.Answer.{Answer}
 use Rattle.codec.specs.Codec.{mapped, both}
 use Rattle.frame.specs.Message.{found}
 use Rattle.record.specs.Forms.{figures_of}
-use Rattle.record.specs.Record.{record_read}
-use Rattle.record.specs.declared.RecordRead.{RecordRead}
-use Rattle.gather.specs.Gather.{four_says, three_says, eleven_says, record_says}
-use Rattle.gather.specs.declared.Four.{Four}
-use Rattle.gather.specs.declared.Three.{Three}
-use Rattle.gather.specs.declared.Eleven.{Eleven}
+use Rattle.gather.specs.Gather.{four_says, three_says, eleven_says, record_says, Four, Three}
 
-abbrev pub Gather : Four → Four → Three → Eleven → Type 0
+abbrev pub Gather : Four → Four → Three → Result Figures Wrong → Type 0
 Gather front middle back r = eleven_says r ≡ mapped figures_of (both (four_says front) (both (four_says middle) (three_says back)))
 
-abbrev pub WithSerial : Eleven → List ℕ → RecordRead → Type 0
-WithSerial eleven s a = a ≡ record_read (found (record_says eleven s))
+abbrev pub WithSerial : Result Figures Wrong → List ℕ → Answer Record → Type 0
+WithSerial eleven s a = a ≡ found (record_says eleven s)

@@ -1,7 +1,6 @@
 -- What each public function promises: its answer, and what lent memory holds after it.
-use Rattle.std.specs.Prelude.{ℕ, Bool, List, ◌≡◌, ℤ}
+use Rattle.std.specs.Prelude.{ℕ, Bool, List, ◌≡◌, ℤ, Ok}
 use Rattle.laws.specs.Gives.{Gives}
-use Rattle.refusal.specs.Answer.{accepted}
 use Rattle.refusal.specs.declared.Refusal.TheVariants.{Field, Setting}
 use Rattle.frame.specs.Message.{read_of}
 use Rattle.record.specs.Forms.{text_form, packed_form}
@@ -31,7 +30,7 @@ abbrev pub HeronConvert : ℕ → ℤ → ℕ → ℕ → Conversion → Type 0
 HeronConvert field number unit wanted r = r ≡ conversion_of (conversion field number unit wanted)
 
 abbrev pub HeronChecksum : List ℕ → Answer → Type 0
-HeronChecksum bytes r = r ≡ answer_of (accepted (checksum_of bytes))
+HeronChecksum bytes r = r ≡ answer_of (Ok (checksum_of bytes))
 
 abbrev pub HeronWriteText : ℕ → ℕ → ℕ → ℕ → ℕ → ℕ → ℕ → ℕ → ℕ → ℤ → ℕ → List ℕ → Bool → List ℕ → Answer → List ℕ → Type 0
 HeronWriteText focus aperture stop tenth focal hyperfocal near far view pupil zoom serial checksum out r after =

@@ -6,7 +6,7 @@ use Rattle.frame.specs.Message.{then_write, then_left}
 use Rattle.cutter.specs.Cutter.{Cutting, cut_of, answer_by, left_by_said, has_ended, then_read}
 use Rattle.cutter.specs.declared.Cut.{Cut}
 use Rattle.cutter.specs.declared.Cutter.{Cutter}
-use Rattle.hourheron.specs.Host.{answer_of, answer_to}
+use Rattle.hourheron.specs.Host.{answer_of}
 use Rattle.hourheron.specs.declared.Answer as host
 use Rattle.hourheron.specs.declared.CutValue.{CutValue}
 
@@ -16,7 +16,7 @@ cut_with a used ended c = record { number = a.number; value = a.value; used = us
 
 -- what a cutter answered
 abbrev pub cut_to : Cut → CutValue
-cut_to t = cut_with (answer_to t.wrote) t.used t.ended t.cutter
+cut_to t = cut_with (answer_of t.wrote) t.used t.ended t.cutter
 
 -- what is made of a message that ended; 16, or 0 with 0 where none did
 abbrev pub cut_value : (Answer (List ℕ) → Answer ℕ) → Cutting → CutValue

@@ -1,15 +1,12 @@
 -- What a C host is handed: document 01's number and the value beside it; and what each entry leaves in its memory.
-use Rattle.std.specs.Prelude.{ℕ, ◌+◌, ◌*◌, Bool, List, ℤ, pos}
+use Rattle.std.specs.Prelude.{ℕ, ◌+◌, ◌*◌, Bool, List, ℤ, pos, Err, Ok}
 use Rattle.laws.specs.Gives.{Gives}
+use Rattle.refusal.specs.Answer.{Answer}
 use Rattle.refusal.specs.Refusal.{number_of, value_of}
-use Rattle.refusal.specs.Answer.{Answer, accepted, refused}
 use Rattle.refusal.specs.declared.Refusal.{Refusal}
-use Rattle.refusal.specs.declared.Verdict.{Verdict}
 use Rattle.codec.specs.Codec.{Codec}
 use Rattle.frame.specs.Frame.{sum_of}
-use Rattle.frame.specs.Message.{afterwards, then_write, then_left, write_of, left_by}
-use Rattle.frame.specs.declared.Wrote.{Wrote}
-use Rattle.frame.specs.declared.Wrote.TheVariants as wrote
+use Rattle.frame.specs.Message.{then_write, then_left, write_of, left_by}
 use Rattle.record.specs.declared.Record.{Record}
 use Rattle.fixed.specs.declared.Fixed.{Fixed}
 use Rattle.hourheron.specs.declared.Answer as host
@@ -19,18 +16,13 @@ use Rattle.hourheron.specs.declared.Conversion.{Conversion}
 
 -- done: 0 and a count; refused: the refusal's number and value
 abbrev pub answer_of : Answer ℕ → host.Answer
-answer_of (accepted n) = record { number = 0; value = n }
-answer_of (refused x) = record { number = number_of x; value = value_of x }
-
--- the same of what a writer answers
-abbrev pub answer_to : Wrote → host.Answer
-answer_to (wrote.Count n) = answer_of (accepted n)
-answer_to (wrote.Refused x) = answer_of (refused x)
+answer_of (Ok n) = record { number = 0; value = n }
+answer_of (Err x) = record { number = number_of x; value = value_of x }
 
 -- done: the number; refused: the field. What does not come with an answer is zero
 abbrev pub conversion_of : Answer ℤ → Conversion
-conversion_of (accepted z) = record { number = 0; field = 0; value = z }
-conversion_of (refused x) = record { number = number_of x; field = value_of x; value = pos 0 }
+conversion_of (Ok z) = record { number = 0; field = 0; value = z }
+conversion_of (Err x) = record { number = number_of x; field = value_of x; value = pos 0 }
 
 -- first character * 256 + second
 abbrev pub checksum_of : List ℕ → ℕ
@@ -65,19 +57,11 @@ abbrev pub fixed_from : List ℕ → List ℕ → ℕ → ℕ → ℕ → ℕ �
 fixed_from serial owner kind focal maximum letter transmission version = record {
   serial = serial;
   owner = owner;
-  kind = kind;
-  focal = focal;
-  maximum = maximum;
-  letter = letter;
-  transmission = transmission;
+  lens = record { kind = kind; focal = focal; maximum = maximum; letter = letter; transmission = transmission };
   version = version;
 }
 
 -- ---- a reader: refused as the message is; then 2 with the bytes that the contents take; else their count
-
--- what a reader below answers: a verdict, and the contents beside it
-abbrev pub told_by : {A : Type 0} → Verdict → A → Answer A
-told_by v a = afterwards v (accepted a)
 
 abbrev pub Lays : {A : Type 0} → (A → List ℕ) → ℕ → Answer A → List ℕ → host.Answer → List ℕ → Type 0
 Lays bytes width read out r after = Gives (answer_of (then_write width read out)) (then_left bytes read out) r after
@@ -85,5 +69,5 @@ Lays bytes width read out r after = Gives (answer_of (then_write width read out)
 -- ---- a question about a message: refused as the message is
 
 unfoldable pub asked_of : {A : Type 0} → (Answer A → ℕ) → Answer A → Answer ℕ
-asked_of f (accepted a) = accepted (f (accepted a))
-asked_of f (refused x) = refused x
+asked_of f (Ok a) = Ok (f (Ok a))
+asked_of f (Err x) = Err x

@@ -1,17 +1,17 @@
 -- What a C host is handed by a recorder, and what is left in its memory.
-use Rattle.std.specs.Prelude.{ℕ, cond, List}
+use Rattle.std.specs.Prelude.{ℕ, List, Option, None, Some, Err, Ok}
 use Rattle.laws.specs.Gives.{Gives}
-use Rattle.refusal.specs.Answer.{Answer, accepted}
-use Rattle.refusal.specs.declared.Verdict.{Verdict}
-use Rattle.frame.specs.Message.{afterwards, then_write, then_left}
+use Rattle.refusal.specs.Answer.{Answer}
+use Rattle.frame.specs.Message.{then_write, then_left}
 use Rattle.cutter.specs.Cutter.{cut_of, answer_by, left_by_said}
-use Rattle.recorder.specs.Recorder.{Reading, as_fixed, as_record, reading_of, take_of}
-use Rattle.recorder.specs.declared.Made.{Made}
+use Rattle.recorder.specs.Recorder.{reading_of, take_of, has_made, is_opening}
+use Rattle.recorder.specs.declared.Reading.{Reading}
+use Rattle.recorder.specs.declared.Reading.TheVariants.{Fixed as as_fixed, Record as as_record}
 use Rattle.recorder.specs.declared.Recorded.{Recorded}
 use Rattle.recorder.specs.declared.Recorder.{Recorder}
 use Rattle.recorder.specs.declared.HandedOut.{HandedOut}
 use Rattle.layout.specs.Layout.{record_bytes, record_width, fixed_bytes, fixed_width}
-use Rattle.hourheron.specs.Host.{answer_of, answer_to, told_by}
+use Rattle.hourheron.specs.Host.{answer_of}
 use Rattle.hourheron.specs.declared.Answer as host
 use Rattle.hourheron.specs.declared.SendValue.{SendValue}
 use Rattle.hourheron.specs.declared.TakeValue.{TakeValue}
@@ -19,7 +19,7 @@ use Rattle.hourheron.specs.declared.TakeValue.{TakeValue}
 -- ---- what it has to send
 
 abbrev pub send_to : HandedOut → SendValue
-send_to s = let a = answer_to s.wrote in record { number = a.number; value = a.value; recorder = s.recorder }
+send_to s = let a = answer_of s.wrote in record { number = a.number; value = a.value; recorder = s.recorder }
 
 -- ---- a message: refused as it is; then 2 with the bytes that its contents take; else their count
 
@@ -38,7 +38,7 @@ abbrev pub reading_by : Recorder → Answer (List ℕ) → Reading
 reading_by r m = reading_of r.setup r.opened m
 
 abbrev pub take_with : host.Answer → Recorded → TakeValue
-take_with a t = record { number = a.number; value = a.value; used = t.used; ended = t.ended; opening = t.made.opening; recorder = t.recorder }
+take_with a t = record { number = a.number; value = a.value; used = t.used; ended = has_made t.made; opening = is_opening t.made; recorder = t.recorder }
 
 abbrev pub Takes : Recorder → List ℕ → List ℕ → TakeValue → List ℕ → Type 0
 Takes r piece out v after =
@@ -47,22 +47,18 @@ Takes r piece out v after =
 
 -- ---- the same of what the recorder hands over
 
--- by the reader that was used
-unfoldable pub made_reading : Made → Reading
-made_reading m = cond m.opening (as_fixed (told_by m.verdict m.items)) (as_record (told_by m.verdict m.fields))
+abbrev pub LaysReading : Reading → List ℕ → host.Answer → List ℕ → Type 0
+LaysReading x out r after = Gives (answer_of (lay_in x out)) (lay_left x out) r after
 
-abbrev pub LaysMade : Made → List ℕ → host.Answer → List ℕ → Type 0
-LaysMade m out r after = Gives (answer_of (lay_in (made_reading m) out)) (lay_left (made_reading m) out) r after
+unfoldable pub take_in : Answer (Option Reading) → List ℕ → Answer ℕ
+take_in (Err x) out = Err x
+take_in (Ok None) out = Ok 0
+take_in (Ok (Some x)) out = lay_in x out
 
--- no message ended
-abbrev pub answer_beside : Verdict → host.Answer
-answer_beside v = answer_of (afterwards v (accepted 0))
+unfoldable pub take_left : Answer (Option Reading) → List ℕ → List ℕ
+take_left (Err x) out = out
+take_left (Ok None) out = out
+take_left (Ok (Some x)) out = lay_left x out
 
-unfoldable pub take_in : Recorded → List ℕ → Answer ℕ
-take_in t out = cond t.ended (lay_in (made_reading t.made) out) (afterwards t.made.verdict (accepted 0))
-
-unfoldable pub take_left : Recorded → List ℕ → List ℕ
-take_left t out = cond t.ended (lay_left (made_reading t.made) out) out
-
-abbrev pub LaysTaken : Recorded → List ℕ → host.Answer → List ℕ → Type 0
-LaysTaken t out r after = Gives (answer_of (take_in t out)) (take_left t out) r after
+abbrev pub LaysTaken : Answer (Option Reading) → List ℕ → host.Answer → List ℕ → Type 0
+LaysTaken made out r after = Gives (answer_of (take_in made out)) (take_left made out) r after

@@ -3,27 +3,25 @@
 // recorder, by value. No rule of the paper stands here.
 #![tactic(auto)]
 
-ghost use Rattle.std.specs.Prelude.{true, ◌≡◌};
-ghost use Rattle.refusal.specs.Answer.{accepted, refused};
+ghost use Rattle.std.specs.Prelude.{true, ◌≡◌, Ok, Err};
 ghost use Rattle.frame.specs.Message.{room_for};
 ghost use Rattle.layout.specs.Layout.{record_bytes, record_width, fixed_bytes, fixed_width};
 ghost use Rattle.cutter.specs.Cutter.{fresh};
-ghost use Rattle.hourheron.specs.Host.{answer_of, answer_to, told_by, Lays};
+ghost use Rattle.recorder.specs.Recorder.{has_made, is_opening};
+ghost use Rattle.hourheron.specs.Host.{answer_of, Lays};
 ghost use Rattle.hourheron.specs.Cuts.{cut_with, cut_to};
-ghost use Rattle.hourheron.specs.Takes.{send_to, answer_beside, LaysMade, LaysTaken};
+ghost use Rattle.hourheron.specs.Takes.{send_to, LaysReading, LaysTaken};
 ghost use Rattle.hourheron.specs.Clauses.{HeronConvert, HeronChecksum, HeronWriteText, HeronWritePacked, HeronReadText, HeronReadPacked, HeronOldToNew, HeronNewToOld, HeronPackedToText, HeronPackedToTextByRecord, HeronWriteFixed, HeronReadFixed, HeronOwnerStart, HeronOwnerLen, HeronCollect, HeronCutTextValue, HeronCutPackedValue, HeronCutFixedValue, HeronCutMessageValue, HeronRecorderFirst, HeronRecorderStart, HeronRecorderSendValue, HeronRecorderTakeValue};
 
 use collector::Collected;
 use cutter::{Cut, Cutter};
-use fixed::{FixedRead, Lens};
-use frame::Wrote;
+use fixed::{Fixed, Lens};
 use line::Line;
-use record::{Figures, RecordRead};
-use recorder::{HandedOut, Made, Recorded, Recorder, Setup};
-use refusal::{Refusal, Verdict};
-use units::Converted;
+use record::{Figures, Record};
+use recorder::{HandedOut, Reading, Recorder, Setup};
+use refusal::Refusal;
 
-// The refusal's number, or 0; and the value that comes with it, or the count.
+// The refusal's number, or 0; and the value that comes with it, or the count: C has no Result. So it is with the structs below.
 #[repr(C)]
 #[derive(Clone, Copy)]
 pub struct Answer {
@@ -76,7 +74,7 @@ pub struct TakeValue {
 // ---- the answers
 
 fn done(n: usize) -> Answer
-    ensures { result ≡ answer_of (accepted n) }
+    ensures { result ≡ answer_of (Ok n) }
 {
     Answer {
         number: 0,
@@ -85,7 +83,7 @@ fn done(n: usize) -> Answer
 }
 
 fn refuse(x: Refusal) -> Answer
-    ensures { result ≡ answer_of (refused x) }
+    ensures { result ≡ answer_of (Err x) }
 {
     Answer {
         number: refusal::number_of(x),
@@ -93,12 +91,12 @@ fn refuse(x: Refusal) -> Answer
     }
 }
 
-fn answer_to(w: Wrote) -> Answer
-    ensures { result ≡ answer_to w }
+fn answer_of(w: Result<usize, Refusal>) -> Answer
+    ensures { result ≡ answer_of w }
 {
     match w {
-        Wrote::Count(n) => done(n),
-        Wrote::Refused(x) => refuse(x),
+        Ok(n) => done(n),
+        Err(x) => refuse(x),
     }
 }
 
@@ -119,12 +117,12 @@ pub fn heron_convert(field: u32, number: i32, unit: u8, wanted: u8) -> Conversio
     ensures { HeronConvert field number unit wanted result }
 {
     match units::convert(field, number, unit, wanted) {
-        Converted::Value(value) => Conversion {
+        Ok(value) => Conversion {
             number: 0,
             field: 0,
             value,
         },
-        Converted::Refused(x) => Conversion {
+        Err(x) => Conversion {
             number: refusal::number_of(x),
             field: refusal::value_of(x) as u32,
             value: 0,
@@ -176,7 +174,7 @@ pub fn heron_write_text(
         zoom,
     };
     let record = serial::record_from(figures, serial);
-    answer_to(transfer::record_to_text(record, checksum, out))
+    answer_of(transfer::record_to_text(record, checksum, out))
 }
 
 // Writes a record packed.
@@ -213,24 +211,22 @@ pub fn heron_write_packed(
         zoom,
     };
     let record = serial::record_from(figures, serial);
-    answer_to(packed_writer::write_packed(record, checksum, out))
+    answer_of(packed_writer::write_packed(record, checksum, out))
 }
 
 // ---- the readers of a record
 
 // Puts what a reader answered into the lent memory. (Without room nothing is put.)
-fn lay_record(read: RecordRead, out: &mut [u8]) -> Answer
-    ensures { Lays record_bytes record_width (told_by read.verdict read.contents) out.old result out.new }
+fn lay_record(read: Result<Record, Refusal>, out: &mut [u8]) -> Answer
+    ensures { Lays record_bytes record_width read out.old result out.new }
 {
-    let verdict = read.verdict;
-    match verdict {
-        Verdict::Done => {
+    match read {
+        Ok(contents) => {
             let room = out.len();
-            let contents = read.contents;
             layout::put_record(out, contents);
             answer_room(layout::RECORD_WIDTH, room)
         }
-        Verdict::Refused(x) => refuse(x),
+        Err(x) => refuse(x),
     }
 }
 
@@ -254,14 +250,14 @@ pub fn heron_read_packed(message: &[u8], checksum: bool, out: &mut [u8]) -> Answ
 pub fn heron_old_to_new(message: &[u8], serial: &[u8], out: &mut [u8]) -> Answer
     ensures { HeronOldToNew message.now serial.now out.old result out.new }
 {
-    answer_to(archive::old_to_new(message, serial, out))
+    answer_of(archive::old_to_new(message, serial, out))
 }
 
 // Moves a line of the present form back.
 pub fn heron_new_to_old(message: &[u8], out: &mut [u8]) -> Answer
     ensures { HeronNewToOld message.now out.old result out.new }
 {
-    answer_to(archive::new_to_old(message, out))
+    answer_of(archive::new_to_old(message, out))
 }
 
 // ---- packed records as text
@@ -270,14 +266,14 @@ pub fn heron_new_to_old(message: &[u8], out: &mut [u8]) -> Answer
 pub fn heron_packed_to_text(message: &[u8], checksum: bool, out: &mut [u8]) -> Answer
     ensures { HeronPackedToText message.now checksum out.old result out.new }
 {
-    answer_to(transfer::packed_to_text(message, checksum, out))
+    answer_of(transfer::packed_to_text(message, checksum, out))
 }
 
 // Does the same by way of the record.
 pub fn heron_packed_to_text_by_record(message: &[u8], checksum: bool, out: &mut [u8]) -> Answer
     ensures { HeronPackedToTextByRecord message.now checksum out.old result out.new }
 {
-    answer_to(transfer::by_record(message, checksum, out))
+    answer_of(transfer::by_record(message, checksum, out))
 }
 
 // ---- the fixed data
@@ -306,22 +302,20 @@ pub fn heron_write_fixed(
         transmission,
     };
     let fixed = fixed::fixed_from(serial, owner, lens, version);
-    answer_to(nwriter::write_fixed(fixed, checksum, out))
+    answer_of(nwriter::write_fixed(fixed, checksum, out))
 }
 
 // Puts what the reader answered into the lent memory. (Without room nothing is put.)
-fn lay_fixed(read: FixedRead, out: &mut [u8]) -> Answer
-    ensures { Lays fixed_bytes fixed_width (told_by read.verdict read.contents) out.old result out.new }
+fn lay_fixed(read: Result<Fixed, Refusal>, out: &mut [u8]) -> Answer
+    ensures { Lays fixed_bytes fixed_width read out.old result out.new }
 {
-    let verdict = read.verdict;
-    match verdict {
-        Verdict::Done => {
+    match read {
+        Ok(contents) => {
             let room = out.len();
-            let contents = read.contents;
             layout::put_fixed(out, contents);
             answer_room(layout::FIXED_WIDTH, room)
         }
-        Verdict::Refused(x) => refuse(x),
+        Err(x) => refuse(x),
     }
 }
 
@@ -336,11 +330,9 @@ pub fn heron_read_fixed(message: &[u8], checksum: bool, out: &mut [u8]) -> Answe
 pub fn heron_owner_start(message: &[u8], checksum: bool) -> Answer
     ensures { HeronOwnerStart message.now checksum result }
 {
-    let read = nreader::read_fixed(message, checksum);
-    let verdict = read.verdict;
-    match verdict {
-        Verdict::Done => done(12),
-        Verdict::Refused(x) => refuse(x),
+    match nreader::read_fixed(message, checksum) {
+        Ok(_) => done(12),
+        Err(x) => refuse(x),
     }
 }
 
@@ -348,15 +340,9 @@ pub fn heron_owner_start(message: &[u8], checksum: bool) -> Answer
 pub fn heron_owner_len(message: &[u8], checksum: bool) -> Answer
     ensures { HeronOwnerLen message.now checksum result }
 {
-    let read = nreader::read_fixed(message, checksum);
-    let verdict = read.verdict;
-    match verdict {
-        Verdict::Done => {
-            let contents = read.contents;
-            let owner = contents.owner;
-            done(nreader::trimmed_length(&owner))
-        }
-        Verdict::Refused(x) => refuse(x),
+    match nreader::read_fixed(message, checksum) {
+        Ok(fixed) => done(nreader::trimmed_length(&fixed.owner)),
+        Err(x) => refuse(x),
     }
 }
 
@@ -375,15 +361,13 @@ pub fn heron_collect(line: &mut Line, byte: u8) -> Collected
 fn handed(cut: Cut) -> CutValue
     ensures { result ≡ cut_to cut }
 {
-    let wrote = cut.wrote;
-    let cutter = cut.cutter;
-    let answer = answer_to(wrote);
+    let answer = answer_of(cut.wrote);
     CutValue {
         number: answer.number,
         value: answer.value,
         used: cut.used,
         ended: cut.ended,
-        cutter,
+        cutter: cut.cutter,
     }
 }
 
@@ -401,6 +385,7 @@ fn ended(answer: Answer, used: usize) -> CutValue
 }
 
 // Takes a piece up to the first end of a message, which is read as a text record, or all of it.
+// (These three share no generic function: a trait of a reader and a layout, with three impls, is longer than they are.)
 pub fn heron_cut_text_value(
     cutter: Cutter,
     piece: &[u8],
@@ -409,11 +394,10 @@ pub fn heron_cut_text_value(
 ) -> CutValue
     ensures { HeronCutTextValue cutter piece.now checksum out.old result out.new }
 {
-    let n = cutter.end_in(piece);
-    if n == 0 {
+    let Some(n) = cutter.end_in(piece) else {
         return handed(cutter.hold(piece));
-    }
-    let read = cut_reader::read_text(cutter, &piece[0..n], checksum);
+    };
+    let read = cut_reader::read_text(cutter, &piece[..n], checksum);
     ended(lay_record(read, out), n)
 }
 
@@ -426,11 +410,10 @@ pub fn heron_cut_packed_value(
 ) -> CutValue
     ensures { HeronCutPackedValue cutter piece.now checksum out.old result out.new }
 {
-    let n = cutter.end_in(piece);
-    if n == 0 {
+    let Some(n) = cutter.end_in(piece) else {
         return handed(cutter.hold(piece));
-    }
-    let read = cut_reader::read_packed(cutter, &piece[0..n], checksum);
+    };
+    let read = cut_reader::read_packed(cutter, &piece[..n], checksum);
     ended(lay_record(read, out), n)
 }
 
@@ -443,11 +426,10 @@ pub fn heron_cut_fixed_value(
 ) -> CutValue
     ensures { HeronCutFixedValue cutter piece.now checksum out.old result out.new }
 {
-    let n = cutter.end_in(piece);
-    if n == 0 {
+    let Some(n) = cutter.end_in(piece) else {
         return handed(cutter.hold(piece));
-    }
-    let read = cut_reader::read_fixed(cutter, &piece[0..n], checksum);
+    };
+    let read = cut_reader::read_fixed(cutter, &piece[..n], checksum);
     ended(lay_fixed(read, out), n)
 }
 
@@ -477,13 +459,11 @@ pub fn heron_recorder_start(packed: bool, checksum: bool) -> Recorder
 fn handed_out(sending: HandedOut) -> SendValue
     ensures { result ≡ send_to sending }
 {
-    let wrote = sending.wrote;
-    let recorder = sending.recorder;
-    let answer = answer_to(wrote);
+    let answer = answer_of(sending.wrote);
     SendValue {
         number: answer.number,
         value: answer.value,
-        recorder,
+        recorder: sending.recorder,
     }
 }
 
@@ -494,39 +474,39 @@ pub fn heron_recorder_send_value(recorder: Recorder, out: &mut [u8]) -> SendValu
     handed_out(recorder.send(out))
 }
 
-// Puts the contents of a message into the lent memory.
-fn lay_made(made: Made, out: &mut [u8]) -> Answer
-    ensures { LaysMade made out.old result out.new }
+// Puts what a message was read as into the lent memory.
+fn lay_reading(reading: Reading, out: &mut [u8]) -> Answer
+    ensures { LaysReading reading out.old result out.new }
 {
-    let verdict = made.verdict;
-    if made.opening {
-        let contents = made.items;
-        return lay_fixed(FixedRead { verdict, contents }, out);
-    }
-    let contents = made.fields;
-    lay_record(RecordRead { verdict, contents }, out)
-}
-
-// No message ended: 16, or done with nothing.
-fn answer_beside(verdict: Verdict) -> Answer
-    ensures { result ≡ answer_beside verdict }
-{
-    match verdict {
-        Verdict::Done => done(0),
-        Verdict::Refused(x) => refuse(x),
+    match reading {
+        Reading::Fixed(read) => lay_fixed(read, out),
+        Reading::Record(read) => lay_record(read, out),
     }
 }
 
-// The answer to a piece: that to the message that ended, where one did.
-fn lay_taken(taken: Recorded, out: &mut [u8]) -> Answer
-    ensures { LaysTaken taken out.old result out.new }
+// The answer to a piece: that to the message that ended, where one did; else done with nothing; or 16.
+fn lay_taken(made: Result<Option<Reading>, Refusal>, out: &mut [u8]) -> Answer
+    ensures { LaysTaken made out.old result out.new }
 {
-    let made = taken.made;
-    if taken.ended {
-        return lay_made(made, out);
+    match made {
+        Ok(Some(reading)) => lay_reading(reading, out),
+        Ok(None) => done(0),
+        Err(x) => refuse(x),
     }
-    let verdict = made.verdict;
-    answer_beside(verdict)
+}
+
+// Whether a message ended.
+fn has_made(made: Result<Option<Reading>, Refusal>) -> bool
+    ensures { result ≡ has_made made }
+{
+    matches!(made, Ok(Some(_)))
+}
+
+// Whether one ended and was read as fixed data.
+fn is_opening(made: Result<Option<Reading>, Refusal>) -> bool
+    ensures { result ≡ is_opening made }
+{
+    matches!(made, Ok(Some(Reading::Fixed(_))))
 }
 
 // Takes a piece up to the first end of a message, which is read as the recorder reads it, or all of it.
@@ -534,15 +514,13 @@ pub fn heron_recorder_take_value(recorder: Recorder, piece: &[u8], out: &mut [u8
     ensures { HeronRecorderTakeValue recorder piece.now out.old result out.new }
 {
     let taken = recorder.take(piece);
-    let made = taken.made;
-    let next = taken.recorder;
-    let answer = lay_taken(taken, out);
+    let answer = lay_taken(taken.made, out);
     TakeValue {
         number: answer.number,
         value: answer.value,
         used: taken.used,
-        ended: taken.ended,
-        opening: made.opening,
-        recorder: next,
+        ended: has_made(taken.made),
+        opening: is_opening(taken.made),
+        recorder: taken.recorder,
     }
 }

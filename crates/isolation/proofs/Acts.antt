@@ -1,10 +1,12 @@
 -- What a call makes of a port's settings: they stay, or the line that waited was acted on and turned the letter. Assumes nothing.
 use Prim.Native.Nat.{ℕ, zero, suc, ◌+◌}
-use mathlib.Core.Bool.{true, false, true≢false, ◌&&◌, cond}
+use mathlib.Core.Bool.{◌&&◌, cond}
 use mathlib.Core.List.{List, [], ◌∷◌}
 use mathlib.Core.Path.{◌≡◌, refl, sym, ap, ap₂, ◌∙◌}
 use lib.Dec.{ltb, eqb}
-use Rattle.laws.proofs.Tests.{told, by, cond_yes, cond_no}
+use Rattle.std.specs.Prelude.{Option, None, Some, is_some, Ok, Err}
+use Rattle.laws.proofs.Tests.{told, by, never}
+use Rattle.refusal.specs.Answer.{Answer}
 use Rattle.machine.specs.Machine.{listed}
 use Rattle.fixed.specs.declared.Settings.{Settings}
 use Rattle.units.specs.Measurement.{measurement_verdict}
@@ -14,15 +16,12 @@ use Rattle.line.specs.Line.{ends, valid_line}
 use Rattle.state.specs.declared.Last.{Last}
 use Rattle.state.specs.declared.Source.{Source}
 use Rattle.state.specs.declared.State.{State}
-use Rattle.state.specs.declared.Waiting.{Waiting}
 use Rattle.rules.specs.Does.{does, counts, continuous}
 use Rattle.port.specs.declared.Handed.{Handed}
 use Rattle.port.specs.declared.Port.{Port}
 use Rattle.port.specs.declared.Received.{Received}
-use Rattle.port.specs.declared.Sent.{Sent}
-use Rattle.port.specs.declared.Sent.TheVariants as sent
 use Rattle.port.specs.declared.Slotted.{Slotted}
-use Rattle.port.specs.Port.{valid_port, moved_if, send_from, begun_with, begins_record, rest_of, reply_last, freed, answers, act_of, is_reply, choose_of, slot_of, taken_port, taken_of, receive_of, measured_port, measure_of}
+use Rattle.port.specs.Port.{valid_port, moved_if, send_from, begun_with, begins_record, rest_of, reply_last, freed, answers, act_of, act_or_rest, is_reply, choose_of, slot_of, taken_port, taken_of, receive_of, measured_port, measure_of}
 use Rattle.port.proofs.Promises.{by_handed}
 use Rattle.fill.specs.Fill.{SlotRun, then_run, run_of, fill_of}
 use Rattle.fill.specs.declared.Filled.{Filled}
@@ -65,22 +64,26 @@ answers_stay p s (b ∷ bs) k = let t = send_stays _ 0 in record { waiting = t.w
 -- what slots make of a port: all of that stays, or the line that waited was acted on
 data Went (p q : Port) : Type 0 where
   stayed : Stays p q → Went p q
-  acted : p.waiting.some ≡ true → q.waiting.some ≡ false →
-      q.source.settings ≡ turned_by (turns_in p.source.modes.state p.waiting.line) p.source.settings → Went p q
+  acted : (l : Line) → p.waiting ≡ Some l → q.waiting ≡ None →
+      q.source.settings ≡ turned_by (turns_in p.source.modes.state l) p.source.settings → Went p q
 
-act_went : (p : Port) → p.waiting.some ≡ true → Went p (act_of p).port
+act_went : (p : Port) (l : Line) → p.waiting ≡ Some l → Went p (act_of p l).port
 unfolding act_of
-act_went p w =
-    let d = does p.source p.waiting.line in
-    let s = answers_stay p d.source d.reply (reply_last (counts p.source p.waiting.line)) in
-    acted w (ap (λ (x : Waiting). x.some) s.waiting) (s.settings ∙ settings_after p.source p.waiting.line)
+act_went p l w =
+    let d = does p.source l in
+    let s = answers_stay p d.source d.reply (reply_last (counts p.source l)) in
+    acted l w s.waiting (s.settings ∙ settings_after p.source l)
+
+later_went : (p : Port) (w : Option Line) → p.waiting ≡ w → Went p (act_or_rest p w).port
+later_went p (Some l) e = act_went p l e
+later_went p None e = stayed (rest_stays p)
 
 choose_went : (p : Port) → Went p (choose_of p).port
 unfolding choose_of
 choose_went p =
     let P : Slotted → Type 0 = λ x. Went p x.port in
     by P (continuous p.source && is_reply p.last) _ _ (λ y. stayed (record_stays p))
-    (λ n. by P p.waiting.some _ _ (λ w. act_went p w) (λ w. stayed (rest_stays p)))
+    (λ n. later_went p p.waiting refl)
 
 slot_went : (p : Port) → Went p (slot_of p).port
 unfolding slot_of
@@ -93,17 +96,15 @@ slot_went p =
 
 then_went : {p q r : Port} → Went p q → Went q r → Went p r
 then_went (stayed s) (stayed t) = stayed (record { waiting = t.waiting ∙ s.waiting; settings = t.settings ∙ s.settings; state = t.state ∙ s.state })
-then_went (stayed s) (acted w f e) =
-    acted (sym (ap (λ (x : Waiting). x.some) s.waiting) ∙ w) f
-    (e ∙ ap₂ turned_by (ap₂ (λ (k : State) (x : Waiting). turns_in k x.line) s.state s.waiting) s.settings)
-then_went (acted w f e) (stayed t) = acted w (ap (λ (x : Waiting). x.some) t.waiting ∙ f) (t.settings ∙ e)
-then_went (acted w f e) (acted w' f' e') = absurd (true≢false (sym w' ∙ f))
+then_went (stayed s) (acted l w f e) = acted l (sym s.waiting ∙ w) f (e ∙ ap₂ turned_by (ap (λ (k : State). turns_in k l) s.state) s.settings)
+then_went (acted l w f e) (stayed t) = acted l w (t.waiting ∙ f) (t.settings ∙ e)
+then_went (acted l w f e) (acted k v g d) = let h : None ≡ Some k = sym f ∙ v in never cc
 
 -- after a slot that sent t: the run goes on, or it ends there
-goes_on : {p q : Port} (t : Sent) (r : SlotRun) → Went p q → Went q r.port → Went p (then_run t q r).port
-goes_on (sent.Byte b) r w v = then_went w v
-goes_on sent.Idle r w v = w
-goes_on (sent.Refused x) r w v = w
+goes_on : {p q : Port} (t : Answer (Option ℕ)) (r : SlotRun) → Went p q → Went q r.port → Went p (then_run t q r).port
+goes_on (Ok (Some b)) r w v = then_went w v
+goes_on (Ok None) r w v = w
+goes_on (Err x) r w v = w
 
 run_went : (n : ℕ) (p : Port) → Went p (run_of n p).port
 unfolding run_of
@@ -118,8 +119,9 @@ fill_went n p =
 -- ---- what a call acts on, and the settings after it
 
 -- a place that holds as much as before was not acted on
-pub none_left : (w : Waiting) → cond w.some [] (listed (waits_of w)) ≡ []
-none_left w = told w.some (λ y. cond_yes _ _ y) (λ n. cond_no _ _ n ∙ ap listed (cond_no _ _ n))
+pub none_left : (w : Option Line) → cond (is_some w) [] (listed (waits_of w)) ≡ []
+none_left (Some l) = refl
+none_left None = refl
 
 module _ (h : Held) where
   abbrev p : Port
@@ -130,24 +132,24 @@ module _ (h : Held) where
 
   -- the settings after a call that leaves q and acts on the line that left the waiting place
   abbrev Turns : Port → Type 0
-  Turns q = q.source.settings ≡ turns (cond q.waiting.some [] (waits_in h))
+  Turns q = q.source.settings ≡ turns (cond (is_some q.waiting) [] (waits_in h))
 
-  unacted : (q : Port) → q.source.settings ≡ p.source.settings → cond q.waiting.some [] (waits_in h) ≡ [] → Turns q
+  unacted : (q : Port) → q.source.settings ≡ p.source.settings → cond (is_some q.waiting) [] (waits_in h) ≡ [] → Turns q
   unacted q e n = e ∙ sym (ap turns n)
 
   still : (q : Port) → q.source.settings ≡ p.source.settings → q.waiting ≡ p.waiting → Turns q
-  still q e w = unacted q e (ap (λ (x : Waiting). cond x.some [] (waits_in h)) w ∙ none_left p.waiting)
+  still q e w = unacted q e (ap (λ (x : Option Line). cond (is_some x) [] (waits_in h)) w ∙ none_left p.waiting)
 
   went_turns : (q : Port) → Went p q → Turns q
   went_turns q (stayed s) = still q s.settings s.waiting
-  went_turns q (acted w f e) = e ∙ sym (ap turns (cond_no _ _ f ∙ ap listed (cond_yes _ _ w)))
+  went_turns q (acted l w f e) = e ∙ sym (ap turns (ap₂ (λ (x y : Option Line). cond (is_some x) [] (listed (waits_of y))) f w))
 
   receive_turns : (b : ℕ) → Turns (receive_of p h.line b).port
   unfolding receive_of taken_of
   receive_turns b =
       let P : Received → Type 0 = λ x. Turns x.port in
       by P (valid_port p && valid_line h.line) _ _
-      (λ v. by P (ends h.line b) _ _ (λ y. by P p.waiting.some _ _ (λ w. still p refl refl) (λ w. unacted (taken_port p h.line) refl refl)) (λ n. still p refl refl))
+      (λ v. by P (ends h.line b) _ _ (λ y. by P (is_some p.waiting) _ _ (λ w. still p refl refl) (λ w. unacted (taken_port p h.line) refl refl)) (λ n. still p refl refl))
       (λ n. still p refl refl)
 
   measure_turns : (m : Measurement) → Turns (measure_of p m).port

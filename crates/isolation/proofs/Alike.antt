@@ -10,20 +10,20 @@ use native.Mathlib.Omega.{arith}
 use borrow.Author.Tests.{ltb-true, le-leb, leb-true}
 use lib.Dec.{ltb, leb, eqb}
 use lib.ListN.{length, get_or, get_or-append}
+use Rattle.std.specs.Prelude as std
+use Rattle.std.specs.Prelude.{None, Some, Ok}
 use Rattle.laws.specs.Over.{over}
 use Rattle.laws.proofs.Tests.{told, cond_yes, and_left, and_right}
 use Rattle.fixed.specs.Form.{fixed_form}
 use Rattle.fixed.specs.declared.Fixed.{Fixed}
 use Rattle.fixed.specs.declared.Settings.{Settings}
 use Rattle.line.specs.declared.Line.{Line}
-use Rattle.line.specs.Line.{valid_line}
 use Rattle.line.specs.Command.{command_of}
 use Rattle.state.specs.declared.Last.{Last}
 use Rattle.state.specs.declared.Last.TheVariants as last
 use Rattle.state.specs.declared.Message.{Message}
 use Rattle.state.specs.declared.Modes.{Modes}
 use Rattle.state.specs.declared.Source.{Source}
-use Rattle.state.specs.declared.Waiting.{Waiting}
 use Rattle.state.specs.State.{message_length, zeros, unsent, valid_message, valid_source}
 use Rattle.state.proofs.Laws.{zeros_long}
 use Rattle.rules.specs.Does.{with_modes, rate_moved, fixed_with, does, counts, continuous, record_message}
@@ -33,9 +33,8 @@ use Rattle.rules.proofs.Unread.{unread}
 use Rattle.rules.proofs.Lengths.{framed_some, record_some, record_at_most}
 use Rattle.rules.proofs.Kept.{does_valid, reply_at_most, ended_valid}
 use Rattle.port.specs.declared.Port.{Port}
-use Rattle.port.specs.declared.Sent.TheVariants as sent
 use Rattle.port.specs.declared.Slotted.{Slotted}
-use Rattle.port.specs.Port.{valid_port, moved_if, send_from, begun_with, begins, nobody, begins_record, rest_of, reply_last, freed, answers, act_of, is_reply, choose_of, slot_of}
+use Rattle.port.specs.Port.{valid_waiting, valid_port, moved_if, send_from, begun_with, begins, begins_record, rest_of, reply_last, freed, answers, act_of, act_or_rest, is_reply, choose_of, slot_of}
 use Rattle.isolation.specs.Turns.{turns_in, turned_by}
 use Rattle.isolation.specs.Isolated.{reply_to_n, sent_to, BothToN, AlikePort, SentToN, AlikeSlots}
 use Rattle.isolation.proofs.Turns.{settings_after, letter_by, does_lettered, n_or_not, says_fixed}
@@ -86,7 +85,7 @@ sent_further at m = record { bytes = m.bytes; len = m.len; at = at + 1 }
 -- with these modes after it
 abbrev sent_with : Modes → Port → ℕ → Slotted
 sent_with k p at = record {
-  sent = sent.Byte (get_or p.message.bytes at 0);
+  sent = Ok (Some (get_or p.message.bytes at 0));
   port = record { source = with_modes p.source k; message = sent_further at p.message; last = p.last; waiting = p.waiting };
 }
 
@@ -131,7 +130,7 @@ module _ (p : Port) (b : ℕ) (m : Message) (v : valid_source p.source ≡ true)
       let i : get_or p.message.bytes at 0 ≡ get_or xs at 0 = ap (λ (z : Message). get_or z.bytes at 0) n.is ∙ byte_of xs at (omega arith) (omega arith) in
       let j : get_or m.bytes at 0 ≡ get_or ys at 0 = ap (λ (z : Message). get_or z.bytes at 0) n.is' ∙ byte_of ys at (omega arith) (omega arith) in
       ⊎_elim
-      (λ e. inl (ap sent.Byte (j ∙ sym e ∙ sym i)))
+      (λ e. inl (ap (λ (y : ℕ). Ok (Some y)) (j ∙ sym e ∙ sym i)))
       (λ e. inr (record {
         byte = get_or p.message.bytes at 0;
         byte' = get_or m.bytes at 0;
@@ -157,7 +156,7 @@ module _ (p : Port) (b : ℕ) (m : Message) (v : valid_source p.source ≡ true)
       last = refl;
       waiting = refl;
     };
-    sent = ⊎_elim (λ e. inl (ap (λ (z : Message). sent.Byte (get_or z.bytes at 0)) e)) (λ n. in_reply k at (h n).0 (h n).1 n) a;
+    sent = ⊎_elim (λ e. inl (ap (λ (z : Message). Ok (Some (get_or z.bytes at 0))) e)) (λ n. in_reply k at (h n).0 (h n).1 n) a;
   }
 
   pub send_alike : (at : ℕ) → (BothToN f p.message m → (at < p.message.len) × (p.message.len ≤ message_length)) → AlikeSlots (send_from p at) (send_from (other p b m) at)
@@ -171,7 +170,7 @@ module _ (p : Port) (b : ℕ) (m : Message) (v : valid_source p.source ≡ true)
 
 -- ---- a message starts: the same, or the reply to N
 
-module _ (s : Source) (b : ℕ) (v : valid_source s ≡ true) (w : valid_source (lettered b s) ≡ true) (k : Last) (x : Waiting) where
+module _ (s : Source) (b : ℕ) (v : valid_source s ≡ true) (w : valid_source (lettered b s) ≡ true) (k : Last) (x : std.Option Line) where
   abbrev starting : List ℕ → Port
   starting xs = record { source = s; message = unsent xs; last = k; waiting = x }
 
@@ -210,7 +209,7 @@ turned_fixed (some t) s c = refl
 acted_fixed : (s : Source) (l : Line) (c : ℕ) → fixed_with c (does s l).source.settings.fixed ≡ fixed_with c s.settings.fixed
 acted_fixed s l c = ap (λ (x : Settings). fixed_with c x.fixed) (settings_after s l) ∙ turned_fixed (turns_in s.modes.state l) s.settings c
 
-begins_where_some : (p : Port) (s : Source) (xs : List ℕ) (k : Last) → 0 < length xs → answers p s xs k ≡ begins s xs k nobody
+begins_where_some : (p : Port) (s : Source) (xs : List ℕ) (k : Last) → 0 < length xs → answers p s xs k ≡ begins s xs k None
 unfolding answers
 begins_where_some p s [] k h = absurd (omega arith)
 begins_where_some p s (x ∷ xs) k h = refl
@@ -223,7 +222,7 @@ module _ (p : Port) (b : ℕ) (m : Message) (v : valid_source p.source ≡ true)
     answers_same : (xs : List ℕ) → length xs ≤ message_length → AlikeSlots (answers p s xs k) (answers (other p b m) (lettered c s) xs k)
     unfolding answers
     answers_same [] h = rest_alike (freed p s) c m r t (of_letter p.source.settings.fixed s.settings.fixed p.message m e a)
-    answers_same (x ∷ xs) h = begins_alike s c r t k nobody (x ∷ xs) (x ∷ xs) (inl refl) (omega arith) h
+    answers_same (x ∷ xs) h = begins_alike s c r t k None (x ∷ xs) (x ∷ xs) (inl refl) (omega arith) h
 
     answers_n : (checksum : Bool) (i j : ℕ) → length (reply_to_n checksum (fixed_with i s.settings.fixed)) ≤ message_length →
         AlikeSlots (answers p s (reply_to_n checksum (fixed_with i s.settings.fixed)) k)
@@ -234,14 +233,13 @@ module _ (p : Port) (b : ℕ) (m : Message) (v : valid_source p.source ≡ true)
         let y = reply_as_long checksum s.settings.fixed i j in
         let z = framed_some checksum (fixed_form.print (fixed_with i s.settings.fixed)) in
         subst (λ (x : Slotted). AlikeSlots x (answers (other p b m) (lettered c s) ys k)) (sym (begins_where_some p s xs k z))
-        (subst (λ (x : Slotted). AlikeSlots (begins s xs k nobody) x) (sym (begins_where_some (other p b m) (lettered c s) ys k (omega arith)))
-        (begins_alike s c r t k nobody xs ys (inr (record { checksum = checksum; letter = i; letter' = j; at = 0; is = refl; is' = refl })) z h))
+        (subst (λ (x : Slotted). AlikeSlots (begins s xs k None) x) (sym (begins_where_some (other p b m) (lettered c s) ys k (omega arith)))
+        (begins_alike s c r t k None xs ys (inr (record { checksum = checksum; letter = i; letter' = j; at = 0; is = refl; is' = refl })) z h))
 
-  act_alike : AlikeSlots (act_of p) (act_of (other p b m))
+  act_alike : (l : Line) → AlikeSlots (act_of p l) (act_of (other p b m) l)
   unfolding act_of
-  act_alike =
+  act_alike l =
       let s = p.source in
-      let l = p.waiting.line in
       let x = does s l in
       let y = does (lettered b s) l in
       let c = letter_by (turns_in s.modes.state l) b in
@@ -261,20 +259,22 @@ module _ (p : Port) (b : ℕ) (m : Message) (v : valid_source p.source ≡ true)
       ⊎_elim
       (λ e.
       let o = s.modes.checksum in
-      let f : x.reply ≡ reply_to_n o (fixed_with s.settings.fixed.letter x.source.settings.fixed) =
-      says_fixed s l e ∙ ap (reply_to_n o) (sym (acted_fixed s l s.settings.fixed.letter)) in
+      let f : x.reply ≡ reply_to_n o (fixed_with s.settings.fixed.lens.letter x.source.settings.fixed) =
+      says_fixed s l e ∙ ap (reply_to_n o) (sym (acted_fixed s l s.settings.fixed.lens.letter)) in
       let g : y.reply ≡ reply_to_n o (fixed_with b x.source.settings.fixed) = says_fixed (lettered b s) l e ∙ ap (reply_to_n o) (sym (acted_fixed s l b)) in
       alike _ _ f g (answers_n x.source c r t (acted_fixed s l) k o _ _ (subst (λ (z : List ℕ). length z ≤ message_length) f (omega arith))))
       (λ e. alike _ _ refl (unread.letter_unsaid b s l e) (answers_same x.source c r t (acted_fixed s l) k x.reply (omega arith)))
       (n_or_not (command_of l))
 
+  later_alike : (x : std.Option Line) → AlikeSlots (act_or_rest p x) (act_or_rest (other p b m) x)
+  later_alike (Some l) = act_alike l
+  later_alike None = rest_alike p b m v w a
+
   choose_alike : AlikeSlots (choose_of p) (choose_of (other p b m))
   unfolding choose_of
   choose_alike =
       let o = continuous p.source && is_reply p.last in
-      let t = p.waiting.some in
-      cond_alike AlikeSlots o o refl (λ y. record_alike p b m v w a)
-      (λ n. cond_alike AlikeSlots t t refl (λ z. act_alike) (λ z. rest_alike p b m v w a))
+      cond_alike AlikeSlots o o refl (λ y. record_alike p b m v w a) (λ n. later_alike p.waiting)
 
 -- ---- a slot
 
@@ -283,7 +283,7 @@ pub valid_alike : (p : Port) (b : ℕ) (m : Message) → valid_source (lettered 
 unfolding valid_port valid_message
 valid_alike p b m e a =
     let n = as_long_lem _ p.message m a in
-    λ i. e i && ((leb (n.0 i) message_length && leb (n.1 i) (n.0 i)) && valid_line p.waiting.line)
+    λ i. e i && ((leb (n.0 i) message_length && leb (n.1 i) (n.0 i)) && valid_waiting p.waiting)
 
 pub as_other : (p q : Port) (d : AlikePort p q) → other p d.letter q.message ≡ q
 as_other p q d = λ i. record { source = sym d.source i; message = q.message; last = sym d.last i; waiting = sym d.waiting i }
@@ -296,7 +296,7 @@ other_slot_alike p b m e a =
     cond_alike AlikeSlots (valid_port p) (valid_port (other p b m)) (valid_alike p b m e a)
     (λ y.
     let x = valid_message p.message in
-    let l = valid_line p.waiting.line in
+    let l = valid_waiting p.waiting in
     let v = and_left (valid_source p.source) (x && l) y in
     let k = and_left x l (and_right (valid_source p.source) (x && l) y) in
     let g = leb-true p.message.len message_length (and_left (leb p.message.len message_length) (leb p.message.at p.message.len) k) in

@@ -7,11 +7,11 @@ use mathlib.Core.Option.{none, some}
 use mathlib.Core.Path.{◌≡◌, refl, sym, ap, ap₂, subst, ◌∙◌}
 use native.Mathlib.Omega.{arith}
 use lib.ListN.{get_or, replicate}
+use Rattle.std.specs.Prelude.{None, Ok, Option, Some}
 use Rattle.laws.specs.Every.{every}
 use Rattle.laws.specs.Member.{◌∈◌}
 use Rattle.laws.proofs.MemberLaws.{the_only}
 use Rattle.laws.proofs.Tests.{told, never}
-use Rattle.refusal.specs.declared.Verdict.TheVariants.{Done}
 use Rattle.machine.specs.Machine.{State, modes, Events, received, slot, given, start, run, sent, acted, on_slot, begin, rules, rule2, answer, rule3, on_byte, on_return, on_other, on_given}
 use Rattle.digits.specs.Digits.{digits}
 use Rattle.codec.specs.Codec.{failing, first, text_ok}
@@ -41,8 +41,6 @@ use Rattle.walk.specs.InCalls.{acted_by, acted_all}
 use Rattle.walk.proofs.Answers as port-answers
 use Rattle.connectors.specs.declared.Side.{Side}
 use Rattle.connectors.specs.declared.Side.TheVariants.{Camera, External}
-use Rattle.connectors.specs.declared.Named.{Named}
-use Rattle.connectors.specs.declared.Named.TheVariants.{At, Nowhere}
 use Rattle.connectors.specs.Connectors.{side_of, start_both}
 use Rattle.connectors.proofs.Promises.{promised}
 use Rattle.isolation.specs.Turns.{turn_of, turns_in}
@@ -83,12 +81,12 @@ computed = record { with_b = refl; with_turn = refl; acts = refl; acts_last = re
 
 -- ---- what a port sees of calls that are none of its own and turn nothing
 
-seen_nothing : (a : Side) (h : Both) (m : Named) (q : Asked) → is_at a m ≡ false → turn_at a h m q ≡ none → seen_in a h m q ≡ []
-seen_nothing a h Nowhere q o e = refl
-seen_nothing Camera h (At Camera) q o e = absurd (true≢false o)
-seen_nothing External h (At External) q o e = absurd (true≢false o)
-seen_nothing Camera h (At External) q o e = ap turn_calls e
-seen_nothing External h (At Camera) q o e = ap turn_calls e
+seen_nothing : (a : Side) (h : Both) (m : Option Side) (q : Asked) → is_at a m ≡ false → turn_at a h m q ≡ none → seen_in a h m q ≡ []
+seen_nothing a h None q o e = refl
+seen_nothing Camera h (Some Camera) q o e = absurd (true≢false o)
+seen_nothing External h (Some External) q o e = absurd (true≢false o)
+seen_nothing Camera h (Some External) q o e = ap turn_calls e
+seen_nothing External h (Some Camera) q o e = ap turn_calls e
 
 none_seen : (a : Side) (h : Both) (cs : List Call) → Allowed Still a h cs → own_calls a cs ≡ [] → seen_at a h cs ≡ []
 unfolding Allowed own_calls seen_at
@@ -114,7 +112,7 @@ module _ (h : Both) where
   abbrev begun : Both
   begun = after h of_two.begin
 
-  accepted : (start_both h.connectors h.lines s bench_measurement bench_measurement).verdict ≡ Done
+  accepted : (start_both h.connectors h.lines s bench_measurement bench_measurement).verdict ≡ Ok tt
   unfolding settings_lowest fixed_lowest lens_lowest text_ok kind_ok letter_ok every failing first measurement_verdict measurement_lowest by_unit figures_lowest front_lowest middle_lowest back_lowest stop_ok
   accepted = (promised.restart.accepted h.connectors h.lines s bench_measurement bench_measurement).1 (refl, refl, refl)
 

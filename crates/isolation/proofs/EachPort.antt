@@ -4,11 +4,11 @@ use mathlib.Core.Bool.{true, cond}
 use mathlib.Core.List.{List, [], ◌∷◌, ◌++◌}
 use mathlib.Core.Path.{◌≡◌, refl, sym, ap, ap₂, subst, ◌∙◌}
 use mathlib.Core.Logic.{inl, inr}
+use Rattle.std.specs.Prelude.{None, Ok, Option, Some}
 use Rattle.laws.specs.Member.{◌∈◌}
 use Rattle.laws.proofs.Tests.{never}
 use lib.ListN.{length, take}
 use Rattle.laws.proofs.Tests.{cond_yes}
-use Rattle.refusal.specs.declared.Verdict.TheVariants.{Done}
 use Rattle.machine.specs.Machine.{run, sent, start}
 use Rattle.machine.specs.Promised.{Promised}
 use Rattle.fixed.specs.declared.Settings.{Settings}
@@ -34,8 +34,6 @@ use Rattle.walk.proofs.Entries as port-walk
 use Rattle.walk.proofs.TightStart.{tight_start}
 use Rattle.connectors.specs.declared.Side.{Side}
 use Rattle.connectors.specs.declared.Side.TheVariants.{Camera, External}
-use Rattle.connectors.specs.declared.Named.{Named}
-use Rattle.connectors.specs.declared.Named.TheVariants.{At, Nowhere}
 use Rattle.connectors.specs.declared.Connectors.{Connectors}
 use Rattle.connectors.specs.declared.Lines.{Lines}
 use Rattle.connectors.specs.declared.StartedBoth.{StartedBoth}
@@ -53,7 +51,7 @@ use Rattle.isolation.proofs.Sees.{sees}
 
 -- ---- an accepted restart is a start of each port
 
-module _ (old : Both) (s : Settings) (camera external : Measurement) (e : (start_both old.connectors old.lines s camera external).verdict ≡ Done) where
+module _ (old : Both) (s : Settings) (camera external : Measurement) (e : (start_both old.connectors old.lines s camera external).verdict ≡ Ok tt) where
   abbrev h : Both
   h = after old (restart s camera external)
 
@@ -75,11 +73,11 @@ module _ (old : Both) (s : Settings) (camera external : Measurement) (e : (start
     abbrev l : Line
     l = line_at old.lines a
 
-    measured : (b : Side) → start_verdict s (measurement_at b camera external) ≡ Done
+    measured : (b : Side) → start_verdict s (measurement_at b camera external) ≡ Ok tt
     measured Camera = let k = (promised.restart.accepted old.connectors old.lines s camera external).0 e in good_settings s camera k.0 ∙ k.1
     measured External = let k = (promised.restart.accepted old.connectors old.lines s camera external).0 e in good_settings s external k.0 ∙ k.2
 
-    pub starts : (start_of p l s m).verdict ≡ Done
+    pub starts : (start_of p l s m).verdict ≡ Ok tt
     starts = start_verdict_lem p l s m ∙ measured a
 
     pub new : held_at h a ≡ begun p l s m
@@ -101,7 +99,7 @@ from_start a h f = record {
   held = ap (λ (x : Both). held_at x a) f.held ∙ there f.old f.settings f.camera f.external f.accepted a f.calls f.unrestarted;
 }
 
-begins : (h : Both) (s : Settings) (camera external : Measurement) → (start_both h.connectors h.lines s camera external).verdict ≡ Done →
+begins : (h : Both) (s : Settings) (camera external : Measurement) → (start_both h.connectors h.lines s camera external).verdict ≡ Ok tt →
     FromRestart (after h (restart s camera external))
 unfolding after_all
 begins h s camera external e = record {
@@ -177,16 +175,16 @@ each_port = record {
 -- ---- demand 3
 
 -- what is asked of a port leaves there what the base's call does
-own_after : (a : Side) (h : Both) (q : Asked) → held_at (after_in h (At a) q) a ≡ one.after (held_at h a) (asks q)
+own_after : (a : Side) (h : Both) (q : Asked) → held_at (after_in h (Some a) q) a ≡ one.after (held_at h a) (asks q)
 own_after Camera h q = refl
 own_after External h q = refl
 
-pub asked_after : (a : Side) (h : Both) (n : ℕ) (q : Asked) → side_of n ≡ At a → held_at (after h (on n q)) a ≡ one.after (held_at h a) (asks q)
-asked_after a h n q e = ap (λ (m : Named). held_at (after_in h m q) a) e ∙ own_after a h q
+pub asked_after : (a : Side) (h : Both) (n : ℕ) (q : Asked) → side_of n ≡ Some a → held_at (after h (on n q)) a ≡ one.after (held_at h a) (asks q)
+asked_after a h n q e = ap (λ (m : Option Side). held_at (after_in h m q) a) e ∙ own_after a h q
 
 -- a received byte is answered as the base's port answers it
-own_verdict : (a : Side) (h : Both) (n b : ℕ) → side_of n ≡ At a → (receive_at h.connectors n (line_at h.lines a) b).verdict ≡ Done →
-    (receive_of (port_at h.connectors a) (line_at h.lines a) b).verdict ≡ Done
+own_verdict : (a : Side) (h : Both) (n b : ℕ) → side_of n ≡ Some a → (receive_at h.connectors n (line_at h.lines a) b).verdict ≡ Ok tt →
+    (receive_of (port_at h.connectors a) (line_at h.lines a) b).verdict ≡ Ok tt
 own_verdict a h n b e d = sym (promised.as_the_port.receive h.connectors n a (line_at h.lines a) b e).0 ∙ d
 
 pub in_own_slots : Demand3EachPort
@@ -224,7 +222,7 @@ in_own_slots a = record {
 
 -- ---- the bench lens at both ports
 
-bench_accepted : (h : Both) → (start_both h.connectors h.lines bench.settings bench.measurement bench.measurement).verdict ≡ Done
+bench_accepted : (h : Both) → (start_both h.connectors h.lines bench.settings bench.measurement bench.measurement).verdict ≡ Ok tt
 bench_accepted h =
     let t = valid_told bench tight.good.valid in
     (promised.restart.accepted h.connectors h.lines bench.settings bench.measurement bench.measurement).1 (t.settings, t.measurement, t.measurement)
@@ -262,37 +260,37 @@ both_is : {c c' : Connectors} {l l' : Lines} → c ≡ c' → l ≡ l' → both_
 both_is e f = ap₂ both_with e f
 
 -- what an entry on a name hands back is what the call leaves
-received_is : (h : Both) (a : Side) (b : ℕ) (m : Named) → m ≡ At a →
+received_is : (h : Both) (a : Side) (b : ℕ) (m : Option Side) → m ≡ Some a →
     let r = receive_in h.connectors m (line_at h.lines a) b in
     both_with r.connectors (with_line h.lines a r.line) ≡ after_in h m (receive b)
 unfolding receive_in
 received_is h a b m e =
-    subst (λ (x : Named). let r = receive_in h.connectors x (line_at h.lines a) b in both_with r.connectors (with_line h.lines a r.line) ≡ after_in h x (receive b)) (sym e) refl
+    subst (λ (x : Option Side). let r = receive_in h.connectors x (line_at h.lines a) b in both_with r.connectors (with_line h.lines a r.line) ≡ after_in h x (receive b)) (sym e) refl
 
-slot_is : (h : Both) (m : Named) → both_with (slot_in h.connectors m).connectors h.lines ≡ after_in h m slots_once
+slot_is : (h : Both) (m : Option Side) → both_with (slot_in h.connectors m).connectors h.lines ≡ after_in h m slots_once
 unfolding slot_in
-slot_is h (At Camera) = refl
-slot_is h (At External) = refl
-slot_is h Nowhere = refl
+slot_is h (Some Camera) = refl
+slot_is h (Some External) = refl
+slot_is h None = refl
 
-measured_is : (h : Both) (x : Measurement) (m : Named) → both_with (measure_in h.connectors m x).connectors h.lines ≡ after_in h m (measure x)
+measured_is : (h : Both) (x : Measurement) (m : Option Side) → both_with (measure_in h.connectors m x).connectors h.lines ≡ after_in h m (measure x)
 unfolding measure_in
-measured_is h x (At Camera) = refl
-measured_is h x (At External) = refl
-measured_is h x Nowhere = refl
+measured_is h x (Some Camera) = refl
+measured_is h x (Some External) = refl
+measured_is h x None = refl
 
-filled_is : (h : Both) (n : ℕ) (m : Named) → both_with (fill_in h.connectors m n).connectors h.lines ≡ after_in h m (fill n)
+filled_is : (h : Both) (n : ℕ) (m : Option Side) → both_with (fill_in h.connectors m n).connectors h.lines ≡ after_in h m (fill n)
 unfolding fill_in
-filled_is h n (At Camera) = refl
-filled_is h n (At External) = refl
-filled_is h n Nowhere = refl
+filled_is h n (Some Camera) = refl
+filled_is h n (Some External) = refl
+filled_is h n None = refl
 
 own_side : (a : Side) → is_side a a ≡ true
 own_side Camera = refl
 own_side External = refl
 
-own_bytes : (a : Side) (h : Both) (n : ℕ) (q : Asked) → side_of n ≡ At a → one.bytes (held_at h a) (asks q) ≡ bytes_in a h (on n q)
-own_bytes a h n q e = sym (ap (λ (m : Named). cond (is_at a m) (one.bytes (held_at h a) (asks q)) []) e ∙ cond_yes _ _ (own_side a))
+own_bytes : (a : Side) (h : Both) (n : ℕ) (q : Asked) → side_of n ≡ Some a → one.bytes (held_at h a) (asks q) ≡ bytes_in a h (on n q)
+own_bytes a h n q e = sym (ap (λ (m : Option Side). cond (is_at a m) (one.bytes (held_at h a) (asks q)) []) e ∙ cond_yes _ _ (own_side a))
 
 pub entries : Entries
 entries = record {

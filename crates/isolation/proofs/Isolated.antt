@@ -7,11 +7,10 @@ use mathlib.Core.Option.{Option, none, some}
 use mathlib.Core.Path.{◌≡◌, refl, sym, ap, ap₂, subst, ◌∙◌}
 use lib.Dec.{eqb}
 use lib.ListN.{length, length-append}
+use Rattle.std.specs.Prelude.{None, Some, is_some, Ok, Err}
 use Rattle.laws.proofs.Tests.{told, and_left}
-use Rattle.refusal.specs.Answer.{is_done}
+use Rattle.refusal.specs.Answer.{Verdict, is_done}
 use Rattle.refusal.specs.declared.Refusal.{Refusal}
-use Rattle.refusal.specs.declared.Verdict.{Verdict}
-use Rattle.refusal.specs.declared.Verdict.TheVariants.{Done, Refused}
 use Rattle.fixed.specs.Fixed.{settings_lowest}
 use Rattle.units.specs.Measurement.{measurement_verdict}
 use Rattle.units.specs.declared.Measurement.{Measurement}
@@ -27,8 +26,6 @@ use Rattle.rules.proofs.Kept.{turned_same}
 use Rattle.port.specs.declared.Handed.{Handed}
 use Rattle.port.specs.declared.Port.{Port}
 use Rattle.port.specs.declared.Received.{Received}
-use Rattle.port.specs.declared.Sent.{Sent}
-use Rattle.port.specs.declared.Sent.TheVariants as sent
 use Rattle.port.specs.declared.Slotted.{Slotted}
 use Rattle.port.specs.Port.{valid_port, slot_of, taken_of, receive_of, handed, measured_port, measure_of}
 use Rattle.port.proofs.Valid.{source_valid}
@@ -41,7 +38,7 @@ use Rattle.connectors.specs.declared.Side.{Side}
 use Rattle.connectors.specs.Connectors.{side_of}
 use Rattle.isolation.specs.Turns.{turned_by}
 use Rattle.isolation.specs.Calls.{Both, held_at, is_at, Asked, receive, slots_once, measure, fill, asks, Call, restart, on, after, after_all, own_calls, bytes_at}
-use Rattle.isolation.specs.Answers.{as_long, slots_filled, Answer, answered, answers_at, Told, with_line_lem, with_count, alone, told_by, bytes_of_all, answer_bytes, all_bytes}
+use Rattle.isolation.specs.Answers.{Sent, as_long, slots_filled, Answer, answered, answers_at, Told, with_line_lem, with_count, alone, told_by, bytes_of_all, answer_bytes, all_bytes}
 use Rattle.isolation.specs.Isolated.{BothToN, AlikePort, AlikeSlots, AlikeHeld, AllAlike, no_slot, next_slot, AlikeAnswer, on_start, on_byte_lem, on_slot_lem, on_measurement, on_fill, AlikeAnswers, no_more, and_next, Isolated}
 use Rattle.isolation.proofs.Sees.{settled_as}
 use Rattle.isolation.proofs.TwoRuns.{Allowed, Pairwise, none_left, and_more, Kept, two_runs}
@@ -62,7 +59,7 @@ module _ {p q : Port} (d : AlikePort p q) where
   taken_alike : (l : Line) → AlikeReceived (taken_of p l) (taken_of q l)
   unfolding taken_of
   taken_alike l =
-      cond_alike AlikeReceived p.waiting.some q.waiting.some (λ i. (d.waiting i).some)
+      cond_alike AlikeReceived (is_some p.waiting) (is_some q.waiting) (λ i. is_some (d.waiting i))
       (λ y. record { verdict = refl; line = refl; port = d })
       (λ n. record {
         verdict = refl;
@@ -103,11 +100,11 @@ module _ (p : Port) (b : ℕ) (n : Message) (e : valid_source (lettered b p.sour
 
   handed_alike : (v : Verdict) → valid_source p.source ≡ true → AlikeHanded (handed v (measured_port p m) p) (handed v (measured_port q m) q)
   unfolding handed
-  handed_alike Done v = record {
+  handed_alike (Ok tt) v = record {
     verdict = refl;
     port = record { letter = b; source = refl; valid = measured_same p.source b m v (e ∙ v); message = a; last = refl; waiting = refl };
   }
-  handed_alike (Refused r) v = record { verdict = refl; port = alike_here }
+  handed_alike (Err r) v = record { verdict = refl; port = alike_here }
 
   other_measured : AlikeHanded (measure_of p m) (measure_of q m)
   unfolding measure_of
@@ -125,20 +122,20 @@ measure_alike {p} {q} d m =
 
 -- two slots that both sent a byte, or neither
 data AsMuch : Sent → Sent → Type 0 where
-  bytes : {x y : ℕ} → AsMuch (sent.Byte x) (sent.Byte y)
-  idle : AsMuch sent.Idle sent.Idle
-  refused : {r : Refusal} → AsMuch (sent.Refused r) (sent.Refused r)
+  bytes : {x y : ℕ} → AsMuch (Ok (Some x)) (Ok (Some y))
+  idle : AsMuch (Ok None) (Ok None)
+  refused : {r : Refusal} → AsMuch (Err r) (Err r)
 
 as_itself : (x : Sent) → AsMuch x x
-as_itself (sent.Byte b) = bytes
-as_itself sent.Idle = idle
-as_itself (sent.Refused r) = refused
+as_itself (Ok (Some b)) = bytes
+as_itself (Ok None) = idle
+as_itself (Err r) = refused
 
 as_much : {x y : Slotted} → AlikeSlots x y → AsMuch x.sent y.sent
 as_much {x} {y} a =
     ⊎_elim
     (λ e. subst (AsMuch x.sent) (sym e) (as_itself x.sent))
-    (λ n. subst (λ (z : Sent). AsMuch z y.sent) (sym n.sends) (subst (AsMuch (sent.Byte n.byte)) (sym n.sends') bytes))
+    (λ n. subst (λ (z : Sent). AsMuch z y.sent) (sym n.sends) (subst (AsMuch (Ok (Some n.byte))) (sym n.sends') bytes))
     a.sent
 
 record AlikeRuns (r t : SlotRun) (xs ys : List Slotted) : Type 0 where
@@ -175,7 +172,7 @@ fill_alike n {p} {q} d =
 -- ---- all calls, and turns of the letter
 
 itself : (p : Port) → AlikePort p p
-itself p = record { letter = p.source.settings.fixed.letter; source = refl; valid = refl; message = inl refl; last = refl; waiting = refl }
+itself p = record { letter = p.source.settings.fixed.lens.letter; source = refl; valid = refl; message = inl refl; last = refl; waiting = refl }
 
 answers_alike : (x y : Held) (q : Asked) → AlikeHeld x y → AlikeAnswer (answered x q) (answered y q)
 answers_alike x y (receive b) a =
@@ -216,8 +213,8 @@ turn_right (some t) x y a =
     let s = turned t y.port.source in
     record {
       port = record {
-        letter = s.settings.fixed.letter;
-        source = ap (λ (z : Source). lettered s.settings.fixed.letter z) d.source;
+        letter = s.settings.fixed.lens.letter;
+        source = ap (λ (z : Source). lettered s.settings.fixed.lens.letter z) d.source;
         valid = turned_same t y.port.source ∙ d.valid;
         message = d.message;
         last = d.last;
@@ -254,9 +251,9 @@ two_alike a h k cs ds e o =
 
 run_bytes : (t : Sent) (q : Port) (r : SlotRun) (xs : List Slotted) → r.bytes ≡ bytes_of_all xs → (then_run t q r).bytes ≡ bytes_of t ++ bytes_of_all (as_long t xs)
 unfolding bytes_of_all
-run_bytes (sent.Byte b) q r xs e = ap (λ (z : List ℕ). b ∷ z) e
-run_bytes sent.Idle q r xs e = refl
-run_bytes (sent.Refused x) q r xs e = refl
+run_bytes (Ok (Some b)) q r xs e = ap (λ (z : List ℕ). b ∷ z) e
+run_bytes (Ok None) q r xs e = refl
+run_bytes (Err x) q r xs e = refl
 
 fill_bytes : (n : ℕ) (p : Port) → (run_of n p).bytes ≡ bytes_of_all (slots_filled n p)
 unfolding run_of slots_filled bytes_of_all

@@ -54,10 +54,10 @@ in_fixed f =
     after (78 ∷ 83 ∷ f.serial)
     (after (79 ∷ f.owner)
     (ahead_of (32 ∷ 32 ∷ 66 ∷ f.version)
-    (after (76 ∷ f.kind ∷ [])
-    (after (78 ∷ digits 10 48 3 f.focal)
-    (after (77 ∷ digits 10 48 3 f.maximum)
-    (ahead_of (84 ∷ digits 10 48 2 f.transmission) (after (85 ∷ []) alone)))))))
+    (after (76 ∷ f.lens.kind ∷ [])
+    (after (78 ∷ digits 10 48 3 f.lens.focal)
+    (after (77 ∷ digits 10 48 3 f.lens.maximum)
+    (ahead_of (84 ∷ digits 10 48 2 f.lens.transmission) (after (85 ∷ []) alone)))))))
 
 -- the contents are as long with one letter as with another
 around_long : {g : ℕ → List ℕ} (r : Around g) (a : ℕ) → length (g a) ≡ length r.before + suc (length r.behind)
@@ -76,21 +76,21 @@ module _ (s : Source) (v : valid_source s ≡ true) where
   f = s.settings.fixed
 
   contents_long : (a : ℕ) → length (fixed_form.print (fixed_with a f)) ≡ 65
-  contents_long a = fixed_as_long f a f.letter ∙ fixed_long s (valid_told s v)
+  contents_long a = fixed_as_long f a f.lens.letter ∙ fixed_long s (valid_told s v)
 
   behind_letter : length (in_fixed f).behind ≡ 10
   unfolding in_fixed after ahead_of alone
   behind_letter =
       let w = (items_told s.settings (valid_told s v).settings).version in
-      let t = length_digits 10 48 (omega arith) 2 f.transmission in
-      let j = length-append (84 ∷ digits 10 48 2 f.transmission) (32 ∷ 32 ∷ 66 ∷ f.version) in
+      let t = length_digits 10 48 (omega arith) 2 f.lens.transmission in
+      let j = length-append (84 ∷ digits 10 48 2 f.lens.transmission) (32 ∷ 32 ∷ 66 ∷ f.version) in
       omega (arith, j)
 
   letter_at : length (in_fixed f).before ≡ 54
   letter_at =
       let b = behind_letter in
-      let n = contents_long f.letter in
-      let m = around_long (in_fixed f) f.letter in
+      let n = contents_long f.lens.letter in
+      let m = around_long (in_fixed f) f.lens.letter in
       omega arith
 
   -- ---- place by place

@@ -5,6 +5,8 @@ use mathlib.Core.Logic.{inl, inr}
 use mathlib.Core.Option.{Option, none, some}
 use mathlib.Core.Path.{◌≡◌, refl, sym, ap, ap₂, ◌∙◌}
 use native.Mathlib.Omega.{arith}
+use Rattle.std.specs.Prelude as std
+use Rattle.std.specs.Prelude.{None, Some}
 use Rattle.laws.proofs.Tests.{cond_yes, cond_no, never}
 use Rattle.laws.specs.Member.{◌∈◌}
 use Rattle.machine.specs.Machine.{listed}
@@ -18,8 +20,6 @@ use Rattle.walk.specs.Calls as one
 use Rattle.walk.specs.InCalls.{acted_by}
 use Rattle.connectors.specs.declared.Side.{Side}
 use Rattle.connectors.specs.declared.Side.TheVariants.{Camera, External}
-use Rattle.connectors.specs.declared.Named.{Named}
-use Rattle.connectors.specs.declared.Named.TheVariants.{At, Nowhere}
 use Rattle.connectors.specs.Connectors.{side_of}
 use Rattle.connectors.specs.Promises.{opposite}
 use Rattle.isolation.specs.Turns.{turn_of, turns_in, turned_by}
@@ -58,12 +58,12 @@ second_part : (ls ms : List Line) → NoTurn (ls ++ ms) → NoTurn ms
 second_part [] ms n = n
 second_part (l ∷ ls) ms n = second_part ls ms (λ y k. n y (inr k))
 
-call_still : (a : Side) (h : Both) (m : Named) (q : Asked) → NoTurn (cond (is_at (opposite a) m) (acted_by (held_at h (opposite a)) (asks q)) []) → turn_at a h m q ≡ none
-call_still a h Nowhere q n = refl
-call_still Camera h (At Camera) q n = refl
-call_still External h (At External) q n = refl
-call_still Camera h (At External) q n = unturned (held_at h External) (acted_by (held_at h External) (asks q)) n
-call_still External h (At Camera) q n = unturned (held_at h Camera) (acted_by (held_at h Camera) (asks q)) n
+call_still : (a : Side) (h : Both) (m : std.Option Side) (q : Asked) → NoTurn (cond (is_at (opposite a) m) (acted_by (held_at h (opposite a)) (asks q)) []) → turn_at a h m q ≡ none
+call_still a h None q n = refl
+call_still Camera h (Some Camera) q n = refl
+call_still External h (Some External) q n = refl
+call_still Camera h (Some External) q n = unturned (held_at h External) (acted_by (held_at h External) (asks q)) n
+call_still External h (Some Camera) q n = unturned (held_at h Camera) (acted_by (held_at h Camera) (asks q)) n
 
 in_still : (a : Side) (h : Both) (c : Call) → NoTurn (acted_in (opposite a) h c) → turn_in a h c ≡ none
 in_still a h (restart s camera external) n = refl
@@ -79,12 +79,12 @@ still a h (c ∷ cs) n =
 
 -- ---- turns, call by call
 
-turns_are : (a : Side) (h : Both) (m : Named) (q : Asked) → turns_for a h m q ≡ listed (turn_at a h m q)
-turns_are a h Nowhere q = refl
-turns_are Camera h (At Camera) q = refl
-turns_are External h (At External) q = refl
-turns_are Camera h (At External) q = refl
-turns_are External h (At Camera) q = refl
+turns_are : (a : Side) (h : Both) (m : std.Option Side) (q : Asked) → turns_for a h m q ≡ listed (turn_at a h m q)
+turns_are a h None q = refl
+turns_are Camera h (Some Camera) q = refl
+turns_are External h (Some External) q = refl
+turns_are Camera h (Some External) q = refl
+turns_are External h (Some Camera) q = refl
 
 from_are : (a : Side) (h : Both) (c : Call) → turns_from a h c ≡ listed (turn_in a h c)
 from_are a h (restart s camera external) = refl

@@ -5,6 +5,8 @@ use mathlib.Core.List.{List, [], ◌∷◌, ◌++◌, append-nil, append_assoc}
 use mathlib.Core.Option.{Option, none, some}
 use mathlib.Core.Path.{◌≡◌, refl, sym, ap, ap₂, subst, ◌∙◌}
 use native.Mathlib.Omega.{arith}
+use Rattle.std.specs.Prelude as std
+use Rattle.std.specs.Prelude.{None, Some}
 use Rattle.fixed.specs.declared.Settings.{Settings}
 use Rattle.line.specs.declared.Line.{Line}
 use Rattle.rules.specs.Lens.{Turn}
@@ -14,8 +16,6 @@ use Rattle.walk.specs.InCalls.{slots_in, slots_run, taken_by, taken_all, acted_b
 use Rattle.walk.proofs.BySlots.{after_append, bytes_append}
 use Rattle.connectors.specs.declared.Side.{Side}
 use Rattle.connectors.specs.declared.Side.TheVariants.{Camera, External}
-use Rattle.connectors.specs.declared.Named.{Named}
-use Rattle.connectors.specs.declared.Named.TheVariants.{At, Nowhere}
 use Rattle.connectors.specs.Connectors.{side_of}
 use Rattle.isolation.specs.Turns.{turned_by}
 use Rattle.isolation.specs.Calls.{Both, held_at, is_at, Asked, asks, Call, restart, on, after_in, after_all, bytes_at, slots_at, taken_at, acted_at, turn_by, turn_calls, seen_in, seen_at}
@@ -93,15 +93,15 @@ other_sees x y q e =
     (sym (call_turns y q ∙ ap (turned_by (turn_by y q)) e))
     (turn_sees x (turn_by y q))
 
-call_sees : (a : Side) (h : Both) (m : Named) (q : Asked) →
+call_sees : (a : Side) (h : Both) (m : std.Option Side) (q : Asked) →
     let x = held_at h a in
     Sees x (held_at (after_in h m q) a) (cond (is_at a m) (one.bytes x (asks q)) []) (cond (is_at a m) (slots_in x (asks q)) 0) (cond (is_at a m) (taken_by x (asks q)) []) (cond (is_at a m) (acted_by x (asks q)) [])
     (seen_in a h m q)
-call_sees a h Nowhere q = none_sees (held_at h a)
-call_sees Camera h (At Camera) q = own_sees (held_at h Camera) (asks q)
-call_sees External h (At External) q = own_sees (held_at h External) (asks q)
-call_sees Camera h (At External) q = other_sees (held_at h Camera) (held_at h External) q refl
-call_sees External h (At Camera) q = other_sees (held_at h External) (held_at h Camera) q refl
+call_sees a h None q = none_sees (held_at h a)
+call_sees Camera h (Some Camera) q = own_sees (held_at h Camera) (asks q)
+call_sees External h (Some External) q = own_sees (held_at h External) (asks q)
+call_sees Camera h (Some External) q = other_sees (held_at h Camera) (held_at h External) q refl
+call_sees External h (Some Camera) q = other_sees (held_at h External) (held_at h Camera) q refl
 
 -- ---- all calls
 

@@ -4,9 +4,10 @@ use mathlib.Core.Bool.{true, false, true≢false, cond}
 use mathlib.Core.List.{List, [], ◌∷◌, ◌++◌, tail, head_d}
 use mathlib.Core.Option.{Option, none}
 use mathlib.Core.Path.{◌≡◌, refl, sym, ap, subst, ◌∙◌}
+use Rattle.std.specs.Prelude as std
+use Rattle.std.specs.Prelude.{Err, None, Ok, Some}
 use Rattle.laws.proofs.Tests.{told, cond_yes, cond_no, never}
-use Rattle.refusal.specs.declared.Verdict.{Verdict}
-use Rattle.refusal.specs.declared.Verdict.TheVariants.{Done, Refused}
+use Rattle.refusal.specs.Answer.{Verdict}
 use Rattle.fixed.specs.declared.Settings.{Settings}
 use Rattle.units.specs.declared.Measurement.{Measurement}
 use Rattle.rules.specs.Lens.{Turn}
@@ -14,8 +15,6 @@ use Rattle.walk.specs.Calls.{Held}
 use Rattle.walk.specs.Calls as one
 use Rattle.connectors.specs.declared.Side.{Side}
 use Rattle.connectors.specs.declared.Side.TheVariants.{Camera, External}
-use Rattle.connectors.specs.declared.Named.{Named}
-use Rattle.connectors.specs.declared.Named.TheVariants.{At, Nowhere}
 use Rattle.connectors.specs.Connectors.{side_of, both_verdict, started_both, started_by, start_both}
 use Rattle.isolation.specs.Turns.{turned_by}
 use Rattle.isolation.specs.Calls.{Both, held_at, is_side, is_at, Asked, asks, Call, restart, on, is_own, after_in, after, after_all, own_calls, turn_by}
@@ -26,9 +25,9 @@ use Rattle.isolation.proofs.EachPort.{asked_after}
 
 -- ---- what the other port's call turns, as a port sees it
 
-abbrev pub turn_at : Side → Both → Named → Asked → Option Turn
-turn_at a h (At b) q = cond (is_side a b) none (turn_by (held_at h b) q)
-turn_at a h Nowhere q = none
+abbrev pub turn_at : Side → Both → std.Option Side → Asked → Option Turn
+turn_at a h (Some b) q = cond (is_side a b) none (turn_by (held_at h b) q)
+turn_at a h None q = none
 
 abbrev pub turn_in : Side → Both → Call → Option Turn
 turn_in a h (restart s camera external) = none
@@ -39,21 +38,21 @@ unfoldable pub Allowed : (Option Turn → Type 0) → Side → Both → List Cal
 Allowed T a h [] = Unit {0}
 Allowed T a h (c ∷ cs) = T (turn_in a h c) × Allowed T a (after h c) cs
 
-other_leaves : (a : Side) (h : Both) (m : Named) (q : Asked) → is_at a m ≡ false →
+other_leaves : (a : Side) (h : Both) (m : std.Option Side) (q : Asked) → is_at a m ≡ false →
     held_at (after_in h m q) a ≡ settled_as (held_at h a) (turned_by (turn_at a h m q) (held_at h a).port.source.settings)
-other_leaves a h Nowhere q e = refl
-other_leaves Camera h (At Camera) q e = absurd (true≢false e)
-other_leaves External h (At External) q e = absurd (true≢false e)
-other_leaves Camera h (At External) q e = ap (settled_as (held_at h Camera)) (call_turns (held_at h External) q)
-other_leaves External h (At Camera) q e = ap (settled_as (held_at h External)) (call_turns (held_at h Camera) q)
+other_leaves a h None q e = refl
+other_leaves Camera h (Some Camera) q e = absurd (true≢false e)
+other_leaves External h (Some External) q e = absurd (true≢false e)
+other_leaves Camera h (Some External) q e = ap (settled_as (held_at h Camera)) (call_turns (held_at h External) q)
+other_leaves External h (Some Camera) q e = ap (settled_as (held_at h External)) (call_turns (held_at h Camera) q)
 
 -- a number that names this port
-is_named : (a : Side) (m : Named) → is_at a m ≡ true → m ≡ At a
-is_named a Nowhere e = absurd (true≢false (sym e))
-is_named Camera (At Camera) e = refl
-is_named External (At External) e = refl
-is_named Camera (At External) e = absurd (true≢false (sym e))
-is_named External (At Camera) e = absurd (true≢false (sym e))
+is_named : (a : Side) (m : std.Option Side) → is_at a m ≡ true → m ≡ Some a
+is_named a None e = absurd (true≢false (sym e))
+is_named Camera (Some Camera) e = refl
+is_named External (Some External) e = refl
+is_named Camera (Some External) e = absurd (true≢false (sym e))
+is_named External (Some Camera) e = absurd (true≢false (sym e))
 
 -- ---- a relation of what two runs hold of a port, and of what it answers in them
 
@@ -90,12 +89,12 @@ module _ {R : Held → Held → Type 0} {A : Answer → Answer → Type 0} {T : 
 
   restarted : (h k : Both) (s : Settings) (camera external : Measurement) (v : Verdict) → R (held_at h a) (held_at k a) →
       R (new_held h s camera external v) (new_held k s camera external v)
-  restarted h k s camera external Done r = kept.same _
-  restarted h k s camera external (Refused x) r = r
+  restarted h k s camera external (Ok tt) r = kept.same _
+  restarted h k s camera external (Err x) r = r
 
   verdict_is : (h : Both) (s : Settings) (camera external : Measurement) (v : Verdict) → (started_by v (started_both s camera external) h.connectors h.lines).verdict ≡ v
-  verdict_is h s camera external Done = refl
-  verdict_is h s camera external (Refused x) = refl
+  verdict_is h s camera external (Ok tt) = refl
+  verdict_is h s camera external (Err x) = refl
 
   own_after : (h k : Both) (c : Call) → is_own a c ≡ true → R (held_at h a) (held_at k a) → R (held_at (after h c) a) (held_at (after k c) a)
   unfolding start_both

@@ -1,10 +1,9 @@
 -- What a port of the box answers, and what it then is, call by call.
-use Rattle.std.specs.Prelude.{ℕ, zero, suc, cond, List, [], ◌∷◌, ◌++◌}
-use Rattle.refusal.specs.declared.Verdict.{Verdict}
+use Rattle.std.specs.Prelude.{ℕ, zero, suc, cond, List, [], ◌∷◌, ◌++◌, Option, None, Some, Result, Ok, Err}
+use Rattle.refusal.specs.Answer.{Verdict}
+use Rattle.refusal.specs.declared.Refusal.{Refusal}
 use Rattle.line.specs.declared.Line.{Line}
 use Rattle.port.specs.declared.Port.{Port}
-use Rattle.port.specs.declared.Sent.{Sent}
-use Rattle.port.specs.declared.Sent.TheVariants as sent
 use Rattle.port.specs.declared.Handed.{Handed}
 use Rattle.port.specs.declared.Received.{Received}
 use Rattle.port.specs.declared.Slotted.{Slotted}
@@ -17,11 +16,15 @@ use Rattle.connectors.specs.declared.Side.{Side}
 use Rattle.connectors.specs.Connectors.{start_both}
 use Rattle.isolation.specs.Calls.{Both, held_at, Asked, receive, slots_once, measure, fill, Call, restart, on, is_own, after}
 
+-- what a slot sends: a byte or none, or the refusal
+abbrev pub Sent : Type 0
+Sent = Result (Option ℕ) Refusal
+
 -- the slots that a fill of so many bytes comes to, one by one, up to the first that sends nothing (where 16 refuses the fill, one that is refused)
 abbrev pub as_long : Sent → List Slotted → List Slotted
-as_long (sent.Byte b) xs = xs
-as_long sent.Idle xs = []
-as_long (sent.Refused r) xs = []
+as_long (Ok (Some b)) xs = xs
+as_long (Ok None) xs = []
+as_long (Err r) xs = []
 
 unfoldable pub slots_filled : ℕ → Port → List Slotted
 slots_filled zero p = []

@@ -1,6 +1,7 @@
 -- The box as its driver calls it: restarts, and what is asked of the port of a number. Each port becomes what the base's calls make of it.
-use Rattle.std.specs.Prelude.{ℕ, ◌+◌, Bool, true, false, cond, List, [], ◌∷◌, ◌++◌}
-use Rattle.std.proofs.Math.Option.{Option, none, some}
+use Rattle.std.specs.Prelude.{ℕ, ◌+◌, Bool, true, false, cond, List, [], ◌∷◌, ◌++◌, Option, None, Some}
+use Rattle.std.proofs.Math.Option as machine
+use Rattle.std.proofs.Math.Option.{none, some}
 use Rattle.machine.specs.Machine.{listed}
 use Rattle.fixed.specs.declared.Settings.{Settings}
 use Rattle.units.specs.declared.Measurement.{Measurement}
@@ -11,8 +12,6 @@ use Rattle.walk.specs.Calls as one
 use Rattle.walk.specs.InCalls.{slots_in, taken_by, acted_by}
 use Rattle.connectors.specs.declared.Side.{Side}
 use Rattle.connectors.specs.declared.Side.TheVariants.{Camera, External}
-use Rattle.connectors.specs.declared.Named.{Named}
-use Rattle.connectors.specs.declared.Named.TheVariants.{At, Nowhere}
 use Rattle.connectors.specs.declared.Connectors.{Connectors}
 use Rattle.connectors.specs.declared.Lines.{Lines}
 use Rattle.connectors.specs.Connectors.{side_of, port_at, with_port, line_at, with_line, start_both}
@@ -38,9 +37,9 @@ is_side External Camera = false
 is_side External External = true
 
 -- is it this port that a number names
-abbrev pub is_at : Side → Named → Bool
-is_at a (At b) = is_side a b
-is_at a Nowhere = false
+abbrev pub is_at : Side → Option Side → Bool
+is_at a (Some b) = is_side a b
+is_at a None = false
 
 -- ---- calls
 
@@ -63,9 +62,9 @@ pub data Call : Type 0 where
   on : ℕ → Asked → Call
 
 -- what it leaves
-abbrev pub after_in : Both → Named → Asked → Both
-after_in h (At a) q = with_held h a (one.after (held_at h a) (asks q))
-after_in h Nowhere q = h
+abbrev pub after_in : Both → Option Side → Asked → Both
+after_in h (Some a) q = with_held h a (one.after (held_at h a) (asks q))
+after_in h None q = h
 
 abbrev pub after : Both → Call → Both
 after h (restart s camera external) =
@@ -124,18 +123,18 @@ acted_at a h (c ∷ cs) = acted_in a h c ++ acted_at a (after h c) cs
 -- ---- as the base's port sees the box: its own calls, and a turn of the letter where the other port acts on X or Y in running
 
 -- the first of the lines that a call acts on, which is the only one
-abbrev pub turn_on : Held → List Line → Option Turn
+abbrev pub turn_on : Held → List Line → machine.Option Turn
 turn_on h [] = none
 turn_on h (l ∷ ls) = turns_in h.port.source.modes.state l
 
 -- the turn, if any, that something asked of a port makes
-abbrev pub turn_by : Held → Asked → Option Turn
+abbrev pub turn_by : Held → Asked → machine.Option Turn
 turn_by h q = turn_on h (acted_by h (asks q))
 
 -- the turns that the other port makes in a list of calls
-abbrev pub turns_for : Side → Both → Named → Asked → List Turn
-turns_for a h (At b) q = cond (is_side a b) [] (listed (turn_by (held_at h b) q))
-turns_for a h Nowhere q = []
+abbrev pub turns_for : Side → Both → Option Side → Asked → List Turn
+turns_for a h (Some b) q = cond (is_side a b) [] (listed (turn_by (held_at h b) q))
+turns_for a h None q = []
 
 abbrev pub turns_from : Side → Both → Call → List Turn
 turns_from a h (restart s camera external) = []
@@ -146,13 +145,13 @@ turns_at a h [] = []
 turns_at a h (c ∷ cs) = turns_from a h c ++ turns_at a (after h c) cs
 
 -- as calls of the base's port
-abbrev pub turn_calls : Option Turn → List one.Call
+abbrev pub turn_calls : machine.Option Turn → List one.Call
 turn_calls none = []
 turn_calls (some t) = one.turn t ∷ []
 
-abbrev pub seen_in : Side → Both → Named → Asked → List one.Call
-seen_in a h (At b) q = cond (is_side a b) (asks q ∷ []) (turn_calls (turn_by (held_at h b) q))
-seen_in a h Nowhere q = []
+abbrev pub seen_in : Side → Both → Option Side → Asked → List one.Call
+seen_in a h (Some b) q = cond (is_side a b) (asks q ∷ []) (turn_calls (turn_by (held_at h b) q))
+seen_in a h None q = []
 
 abbrev pub seen_by : Side → Both → Call → List one.Call
 seen_by a h (restart s camera external) = []

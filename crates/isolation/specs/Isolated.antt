@@ -1,10 +1,10 @@
 -- "Keep this port's bytes, slots, measurements and any restarts with all they hand in, and change the other port's bytes, slots and measurements at will: if
 -- neither run acts on X or Y there, this port's answers and bytes are the same; if they do, only the U letter of N replies and their checksums may
 -- differ." Statements only.
-use Rattle.std.specs.Prelude.{ℕ, suc, Bool, true, false, List, [], ◌∷◌, map, ◌⊎◌, ◌≢◌, ◌≡◌, length, get_or}
+use Rattle.std.specs.Prelude.{ℕ, suc, Bool, true, false, List, [], ◌∷◌, map, ◌⊎◌, ◌≢◌, ◌≡◌, length, get_or, Ok, Some}
 use Rattle.std.proofs.Math.Option.{none}
 use Rattle.laws.specs.Member.{◌∈◌}
-use Rattle.refusal.specs.declared.Verdict.{Verdict}
+use Rattle.refusal.specs.Answer.{Verdict}
 use Rattle.frame.specs.Frame.{framed}
 use Rattle.fixed.specs.Form.{fixed_form}
 use Rattle.fixed.specs.declared.Fixed.{Fixed}
@@ -19,7 +19,6 @@ use Rattle.state.specs.State.{unsent, valid_source}
 use Rattle.rules.specs.Does.{fixed_with}
 use Rattle.rules.specs.Unread.{lettered}
 use Rattle.port.specs.declared.Port.{Port}
-use Rattle.port.specs.declared.Sent.TheVariants as sent
 use Rattle.port.specs.declared.Handed.{Handed}
 use Rattle.port.specs.declared.Received.{Received}
 use Rattle.port.specs.declared.Slotted.{Slotted}
@@ -73,8 +72,8 @@ pub record AlikePort (p q : Port) : Type 0 where
 pub record SentToN (x y : Slotted) : Type 0 where
   pub byte : ℕ
   pub byte' : ℕ
-  pub sends : x.sent ≡ sent.Byte byte
-  pub sends' : y.sent ≡ sent.Byte byte'
+  pub sends : x.sent ≡ Ok (Some byte)
+  pub sends' : y.sent ≡ Ok (Some byte')
   pub replies : BothToN x.port.source.settings.fixed x.port.message y.port.message
   pub place : ℕ
   pub left_from_lem : replies.at ≡ suc place

@@ -5,3 +5,4 @@ pub mod EveryLaws
 pub mod ListLaws
 pub mod MemberLaws
 pub mod Range
+pub mod Exits

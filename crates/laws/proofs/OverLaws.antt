@@ -143,3 +143,12 @@ pub run : {l d s : List ℕ} {a n : ℕ} → Run l d a n s → n ≤ length d �
 run (last s p h) room = p
 run {d = d} (next {t = t} {a = a} {k = k} s p h r) room =
     onto d s t a (a + k) p (run r (rw (ap length p ∙ length_over d s a) room)) (rw h) (omega (arith, run_long r))
+
+-- a run over the first n bytes, lent on as an array, with those behind it as they were: one write over all of them
+pub run_first : {l e s : List ℕ} {k : ℕ} (d : List ℕ) (n : ℕ) → n ≤ length d → e ≡ take n d → Run l e 0 k s → k ≤ n → l ++ drop n d ≡ over d 0 s
+run_first {l = l} {e = e} {s = s} d n room first r fits =
+    let long : length e ≡ n = ap length first ∙ length-take-le n d room in
+    ap (λ (x : List ℕ). x ++ drop n d) (run r (omega (arith, long)))
+    ∙ sym (over_front e (drop n d) s 0 (omega (arith, long, run_long r)))
+    ∙ ap (λ (x : List ℕ). over (x ++ drop n d) 0 s) first
+    ∙ ap (λ (x : List ℕ). over x 0 s) (take-append-drop n d)

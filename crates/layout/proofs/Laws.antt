@@ -11,6 +11,7 @@ use Rattle.laws.specs.Over.{over}
 use Rattle.laws.proofs.OverLaws.{over_short, over_next}
 use Rattle.record.specs.declared.Record.{Record}
 use Rattle.fixed.specs.declared.Fixed.{Fixed}
+use Rattle.fixed.specs.declared.Lens.{Lens}
 use Rattle.fixed.proofs.Given.{Long}
 use Rattle.layout.specs.Layout.{four_each, numbers_of, record_bytes, record_width, lens_bytes, fixed_bytes, fixed_width}
 
@@ -47,9 +48,9 @@ pub record_long : (r : Record) → length r.serial ≡ 9 → length (record_byte
 unfolding numbers_of
 record_long r l = length-append (four_each (numbers_of r.figures)) r.serial ∙ rw (numbers_long (numbers_of r.figures), l)
 
-pub lens_long : (f : Fixed) → length (lens_bytes f) ≡ 7
+pub lens_long : (l : Lens) → length (lens_bytes l) ≡ 7
 unfolding lens_bytes lowest_first
-lens_long f = refl
+lens_long l = refl
 
 pub fixed_long : (f : Fixed) → Long f.serial f.owner f.version → length (fixed_bytes f) ≡ fixed_width
-fixed_long f l = simp (length-append, l.nine, l.thirty_one_lem, lens_long f, l.four)
+fixed_long f l = simp (length-append, l.nine, l.thirty_one_lem, lens_long f.lens, l.four)

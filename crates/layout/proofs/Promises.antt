@@ -20,7 +20,7 @@ use Rattle.record.specs.Record.{top_distance, top_pupil, front_lowest, middle_lo
 use Rattle.record.specs.declared.Figures.{Figures}
 use Rattle.record.specs.declared.Record.{Record}
 use Rattle.record.proofs.Exact.{serial_long}
-use Rattle.fixed.specs.Fixed.{lens_in, lens_lowest, fixed_lowest}
+use Rattle.fixed.specs.Fixed.{lens_lowest, fixed_lowest}
 use Rattle.fixed.specs.declared.Fixed.{Fixed}
 use Rattle.fixed.proofs.Given.{Long, items_long}
 use Rattle.layout.specs.Layout.{four_each, twos, numbers_of, record_bytes, lens_bytes, fixed_bytes}
@@ -117,7 +117,7 @@ module _ (f : Fixed) (rest : List ℕ) (long : Long f.serial f.owner f.version) 
 
   -- what stands behind them
   behind : List ℕ
-  behind = lens_bytes f ++ (f.version ++ rest)
+  behind = lens_bytes f.lens ++ (f.version ++ rest)
 
   joined : fixed_bytes f ++ rest ≡ texts ++ behind
   unfolding texts behind
@@ -129,7 +129,7 @@ module _ (f : Fixed) (rest : List ℕ) (long : Long f.serial f.owner f.version) 
   bytes_behind : (n k : ℕ) → bytes_at (40 + n) k (fixed_bytes f ++ rest) ≡ bytes_at n k behind
   bytes_behind n k = ap (bytes_at (40 + n) k) joined ∙ ap (take k) (past texts behind 40 n texts_long)
 
-  items_back : lens_lowest (lens_in f) ≡ 0 → unpack_fixed (fixed_bytes f ++ rest) ≡ f
+  items_back : lens_lowest f.lens ≡ 0 → unpack_fixed (fixed_bytes f ++ rest) ≡ f
   unfolding texts behind lens_lowest lens_bytes lowest_first
   items_back z =
       let z3 = first_zero _ _ z in
@@ -140,17 +140,19 @@ module _ (f : Fixed) (rest : List ℕ) (long : Long f.serial f.owner f.version) 
       λ j. record {
         serial = (ap (take 9) all ∙ take_at f.serial _ 9 long.nine) j;
         owner = (ap (bytes_at 9 31) all ∙ ap (take 31) (drop_at f.serial _ 9 long.nine) ∙ take_at f.owner _ 31 long.thirty_one_lem) j;
-        kind = byte_behind 0 j;
-        focal = (ap from_lowest (bytes_behind 1 2) ∙ in_range_lem 2 f.focal 999 3 (omega arith) z4.0) j;
-        maximum = (ap from_lowest (bytes_behind 3 2) ∙ in_range_lem 2 f.maximum 999 4 (omega arith) z5.0) j;
-        letter = byte_behind 5 j;
-        transmission = (ap from_lowest (bytes_behind 6 1) ∙ in_range_lem 1 f.transmission 99 6 (omega arith) z6.1) j;
+        lens = record {
+          kind = byte_behind 0 j;
+          focal = (ap from_lowest (bytes_behind 1 2) ∙ in_range_lem 2 f.lens.focal 999 3 (omega arith) z4.0) j;
+          maximum = (ap from_lowest (bytes_behind 3 2) ∙ in_range_lem 2 f.lens.maximum 999 4 (omega arith) z5.0) j;
+          letter = byte_behind 5 j;
+          transmission = (ap from_lowest (bytes_behind 6 1) ∙ in_range_lem 1 f.lens.transmission 99 6 (omega arith) z6.1) j;
+        };
         version = (bytes_behind 7 4 ∙ take_at f.version rest 4 long.four) j;
       }
 
 fixed_back : (f : Fixed) (rest : List ℕ) → fixed_lowest f ≡ 0 → unpack_fixed (fixed_bytes f ++ rest) ≡ f
 unfolding fixed_lowest
-fixed_back f rest z = items_back f rest (items_long f z) (first_zero (lens_lowest (lens_in f)) _ (first_zero _ _ (first_zero _ _ z).1).1).0
+fixed_back f rest z = items_back f rest (items_long f z) (first_zero (lens_lowest f.lens) _ (first_zero _ _ (first_zero _ _ z).1).1).0
 
 -- ---- both
 

@@ -4,6 +4,7 @@ use Rattle.laws.specs.Lowest.{lowest_first}
 use Rattle.record.specs.declared.Figures.{Figures}
 use Rattle.record.specs.declared.Record.{Record}
 use Rattle.fixed.specs.declared.Fixed.{Fixed}
+use Rattle.fixed.specs.declared.Lens.{Lens}
 
 -- numbers one behind the other, four bytes each
 unfoldable pub four_each : List ℕ → List ℕ
@@ -28,12 +29,12 @@ abbrev pub record_width : ℕ
 record_width = 53
 
 -- items 3 to 7: one byte, two, two, one, one
-unfoldable pub lens_bytes : Fixed → List ℕ
-lens_bytes f = (f.kind ∷ []) ++ (lowest_first 2 f.focal ++ (lowest_first 2 f.maximum ++ ((f.letter ∷ []) ++ lowest_first 1 f.transmission)))
+unfoldable pub lens_bytes : Lens → List ℕ
+lens_bytes l = (l.kind ∷ []) ++ (lowest_first 2 l.focal ++ (lowest_first 2 l.maximum ++ ((l.letter ∷ []) ++ lowest_first 1 l.transmission)))
 
 -- fixed data: the items in order
 abbrev pub fixed_bytes : Fixed → List ℕ
-fixed_bytes f = f.serial ++ (f.owner ++ (lens_bytes f ++ f.version))
+fixed_bytes f = f.serial ++ (f.owner ++ (lens_bytes f.lens ++ f.version))
 
 abbrev pub fixed_width : ℕ
 fixed_width = 51

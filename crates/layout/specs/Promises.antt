@@ -39,11 +39,7 @@ abbrev pub some_fixed : List ℕ → List ℕ → List ℕ → Fixed
 some_fixed serial owner version = record {
   serial = serial;
   owner = owner;
-  kind = 80;
-  focal = 0x0201;
-  maximum = 0x0103;
-  letter = 73;
-  transmission = 95;
+  lens = record { kind = 80; focal = 0x0201; maximum = 0x0103; letter = 73; transmission = 95 };
   version = version;
 }
 

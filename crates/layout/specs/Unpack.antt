@@ -40,10 +40,12 @@ abbrev pub unpack_fixed : List ℕ → Fixed
 unpack_fixed s = record {
   serial = bytes_at 0 9 s;
   owner = bytes_at 9 31 s;
-  kind = get_or s 40 0;
-  focal = number_at 41 2 s;
-  maximum = number_at 43 2 s;
-  letter = get_or s 45 0;
-  transmission = number_at 46 1 s;
+  lens = record {
+    kind = get_or s 40 0;
+    focal = number_at 41 2 s;
+    maximum = number_at 43 2 s;
+    letter = get_or s 45 0;
+    transmission = number_at 46 1 s;
+  };
   version = bytes_at 47 4 s;
 }

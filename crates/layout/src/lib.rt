@@ -8,7 +8,7 @@ ghost use Rattle.laws.specs.Over.{over};
 ghost use Rattle.layout.specs.Layout.{four_each, twos, numbers_of, lens_bytes, fixed_width};
 ghost use Rattle.layout.specs.Clauses.{PutRecord, PutFixed};
 
-use fixed::Fixed;
+use fixed::{Fixed, Lens};
 use record::{Figures, Record};
 
 // How many bytes a record and fixed data take.
@@ -24,11 +24,9 @@ fn put_number(out: &mut [u8], at: usize, width: usize, n: u32)
         return;
     }
     let mut m = n;
-    let mut i = 0;
-    while i < width {
+    for i in 0..width {
         out[at + i] = (m % 256) as u8;
         m /= 256;
-        i += 1;
     }
 }
 
@@ -37,10 +35,8 @@ fn put_numbers(out: &mut [u8], numbers: &[u32])
     requires { 4 * length numbers.now ≤ length out.old }
     ensures { out.new ≡ over out.old 0 (four_each numbers.now) }
 {
-    let mut i = 0;
-    while i < numbers.len() {
-        put_number(out, 4 * i, 4, numbers[i]);
-        i += 1;
+    for (i, &n) in numbers.iter().enumerate() {
+        put_number(out, 4 * i, 4, n);
     }
 }
 
@@ -81,23 +77,20 @@ pub fn put_record(out: &mut [u8], r: Record)
     if out.len() < RECORD_WIDTH {
         return;
     }
-    let figures = r.figures;
-    let serial = r.serial;
-    let numbers = numbers_of(figures);
-    put_numbers(out, &numbers);
-    lent::put_text(out, 44, &serial);
+    put_numbers(out, &numbers_of(r.figures));
+    lent::put_text(out, 44, &r.serial);
 }
 
 // Writes items 3 to 7 at their place.
-fn put_lens(out: &mut [u8], f: Fixed)
+fn put_lens(out: &mut [u8], l: Lens)
     requires { fixed_width ≤ length out.old }
-    ensures { out.new ≡ over out.old 40 (lens_bytes f) }
+    ensures { out.new ≡ over out.old 40 (lens_bytes l) }
 {
-    lent::put_byte(out, 40, f.kind);
-    put_number(out, 41, 2, f.focal);
-    put_number(out, 43, 2, f.maximum);
-    lent::put_byte(out, 45, f.letter);
-    put_number(out, 46, 1, f.transmission);
+    lent::put_byte(out, 40, l.kind);
+    put_number(out, 41, 2, l.focal);
+    put_number(out, 43, 2, l.maximum);
+    lent::put_byte(out, 45, l.letter);
+    put_number(out, 46, 1, l.transmission);
 }
 
 // Writes fixed data.
@@ -107,11 +100,8 @@ pub fn put_fixed(out: &mut [u8], f: Fixed)
     if out.len() < FIXED_WIDTH {
         return;
     }
-    let serial = f.serial;
-    let owner = f.owner;
-    let version = f.version;
-    lent::put_text(out, 0, &serial);
-    lent::put_text(out, 9, &owner);
-    put_lens(out, f);
-    lent::put_text(out, 47, &version);
+    lent::put_text(out, 0, &f.serial);
+    lent::put_text(out, 9, &f.owner);
+    put_lens(out, f.lens);
+    lent::put_text(out, 47, &f.version);
 }

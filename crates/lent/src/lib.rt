@@ -7,31 +7,23 @@ ghost use Rattle.lent.specs.Clauses.{HasRoom, PutByte, PutPair, PutText};
 pub fn has_room(len: usize, at: usize, n: usize) -> bool
     ensures { HasRoom len at n result }
 {
-    if len < n {
-        return false;
-    }
-    at <= len - n
+    n <= len && at <= len - n
 }
 
 // Writes one byte.
 pub fn put_byte(out: &mut [u8], at: usize, byte: u8)
     ensures { PutByte out.old at byte out.new }
 {
-    if out.len() <= at {
-        return;
+    if at < out.len() {
+        out[at] = byte;
     }
-    out[at] = byte;
 }
 
 // Writes two bytes.
 pub fn put_pair(out: &mut [u8], at: usize, first: u8, second: u8)
     ensures { PutPair out.old at first second out.new }
 {
-    if !has_room(out.len(), at, 2) {
-        return;
-    }
-    out[at] = first;
-    out[at + 1] = second;
+    put_text(out, at, &[first, second]);
 }
 
 // Writes the bytes of a text.
@@ -41,9 +33,5 @@ pub fn put_text(out: &mut [u8], at: usize, text: &[u8])
     if !has_room(out.len(), at, text.len()) {
         return;
     }
-    let mut i = 0;
-    while i < text.len() {
-        out[at + i] = text[i];
-        i += 1;
-    }
+    out[at..at + text.len()].copy_from_slice(text);
 }

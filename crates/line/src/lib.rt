@@ -8,7 +8,7 @@ ghost use Rattle.line.specs.Clauses.{LineBlank, LineEnds, LineJoined, LineIsVali
 // The bytes that a line keeps.
 pub const LINE_LENGTH: usize = 64;
 
-// The received bytes since the last carriage return. More than the line keeps make it overlong.
+// The received bytes since the last carriage return, as C keeps them. More than the line keeps make it overlong.
 #[repr(C)]
 #[derive(Clone, Copy)]
 pub struct Line {
@@ -136,11 +136,10 @@ fn three_bytes(a: u8, b: u8, c: u8) -> Command
 fn command_in(line: &[u8]) -> Command
     ensures { result ≡ command_in line.now }
 {
-    let n = line.len();
-    match n {
-        1 => one_byte(line[0]),
-        2 => two_bytes(line[0], line[1]),
-        3 => three_bytes(line[0], line[1], line[2]),
+    match *line {
+        [a] => one_byte(a),
+        [a, b] => two_bytes(a, b),
+        [a, b, c] => three_bytes(a, b, c),
         _ => Command::Unknown,
     }
 }
@@ -193,10 +192,8 @@ impl Line {
         if self.overlong {
             return Command::Unknown;
         }
-        let len = self.len;
-        if len <= LINE_LENGTH {
-            let bytes = self.bytes;
-            return command_in(&bytes[..len]);
+        if self.len <= LINE_LENGTH {
+            return command_in(&self.bytes[..self.len]);
         }
         Command::Unknown
     }

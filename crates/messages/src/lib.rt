@@ -122,7 +122,7 @@ pub fn blur_message(letter: u8, circle: u16, checksum: bool) -> Message
     closed(bytes, 7, checksum)
 }
 
-// The text record.
+// The text record. (The three forms differ in their writer alone: handed over as a closure it would need a contract of its own.)
 pub fn text_message(r: Record, checksum: bool) -> Message
     ensures { TextMessage r checksum result }
 {

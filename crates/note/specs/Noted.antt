@@ -1,6 +1,6 @@
 -- A record with a note behind the serial, before the checksum, for any form: field 14 is one field more.
-use Rattle.std.specs.Prelude.{ℕ, ◌+◌, ◌-◌, Bool, ◌&&◌, List, [], ◌++◌, map, leb, eqb, length}
-use Rattle.refusal.specs.Answer.{Answer, accepted, refused, unless}
+use Rattle.std.specs.Prelude.{ℕ, ◌+◌, ◌-◌, Bool, ◌&&◌, List, [], ◌++◌, map, leb, eqb, length, Err, Ok}
+use Rattle.refusal.specs.Answer.{Answer, unless}
 use Rattle.refusal.specs.declared.Refusal.{Refusal}
 use Rattle.refusal.specs.declared.Refusal.TheVariants.{Length}
 use Rattle.codec.specs.Codec.{Codec, failing, passed, spellings, ◌⊗◌}
@@ -40,20 +40,20 @@ read_noted c checksum m =
 
 -- what it answers without the note
 unfoldable pub contents_of : {A : Type 0} → Answer (A × List ℕ) → Answer A
-contents_of (accepted p) = accepted p.0
-contents_of (refused r) = refused r
+contents_of (Ok p) = Ok p.0
+contents_of (Err r) = Err r
 
 abbrev pub read_contents : {A : Type 0} → Codec A → Bool → List ℕ → Answer A
 read_contents c checksum m = contents_of (read_noted c checksum m)
 
 -- where the note starts, and how long it is, by the reader's answer: a refused message's is empty, at its start
 abbrev pub note_at : {A : Type 0} → ℕ → Answer (A × List ℕ) → ℕ
-note_at w (accepted p) = w
-note_at w (refused r) = 0
+note_at w (Ok p) = w
+note_at w (Err r) = 0
 
 abbrev pub note_length : {A : Type 0} → Answer (A × List ℕ) → ℕ
-note_length (accepted p) = length p.1
-note_length (refused r) = 0
+note_length (Ok p) = length p.1
+note_length (Err r) = 0
 
 -- ---- a writer: the lowest field out of range, then 14 for the note, then 2
 

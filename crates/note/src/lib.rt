@@ -12,11 +12,8 @@ pub fn is_note(s: &[u8]) -> bool
     ensures { IsNote s.now result }
 {
     let mut all = s.len() <= NOTE_LENGTH;
-    let mut i = 0;
-    while i < s.len() {
-        let byte = s[i];
-        all = all & (b' ' <= byte);
-        i += 1;
+    for &byte in s {
+        all &= b' ' <= byte;
     }
     all
 }

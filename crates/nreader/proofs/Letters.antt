@@ -1,29 +1,24 @@
--- A letter behind its tag: how code that tests the tag and then the letter answers, and that the form finds the same. Assumes nothing.
+-- A letter behind its tag: what the code finds is what the form finds. Assumes nothing.
 use Prim.Native.Nat.{ℕ}
-use mathlib.Core.Bool.{Bool, true, false}
+use mathlib.Core.Bool.{Bool}
 use mathlib.Core.List.{List, [], ◌∷◌}
-use mathlib.Core.Path.{◌≡◌}
+use mathlib.Core.Path.{◌≡◌, sym, ap, ◌∙◌}
 use native.Mathlib.Omega.{arith}
-use borrow.Author.Tests.{eq-eqb, ne_eqb}
 use lib.Dec.{eqb}
 use lib.ListN.{length, get_or}
+use Rattle.std.specs.Prelude.{Option, None, Some}
 use Rattle.laws.proofs.Tests.{told}
-use Rattle.codec.specs.Codec.{passed, letter, tagged}
+use Rattle.codec.specs.Codec.{got, wrong, passed, letter, tagged}
 use Rattle.nreader.specs.Reader.{read_letter, letter_says}
-use Rattle.nreader.specs.declared.Letter.TheVariants.{Is, Wrong}
 
-module _ (t : ℕ) (ok : ℕ → Bool) (tag b : ℕ) where
-  pub other_tag : (tag ≡ t → ⊥) → Wrong ≡ read_letter t ok tag b
-  unfolding read_letter
-  other_tag n = rw (ne_eqb tag t n)
+-- what a call that answered this found
+pub gave_letter : (i : ℕ) {r f : Option ℕ} {b : ℕ} → r ≡ f → r ≡ Some b → letter_says i f ≡ got b
+unfolding letter_says
+gave_letter i e g = ap (letter_says i) (sym e ∙ g)
 
-  pub other_letter : ok b ≡ false → Wrong ≡ read_letter t ok tag b
-  unfolding read_letter
-  other_letter e = told (eqb tag t) (λ y. rw (y, e)) (λ n. rw n)
-
-  pub this_letter : tag ≡ t → ok b ≡ true → Is b ≡ read_letter t ok tag b
-  unfolding read_letter
-  this_letter y e = rw (eq-eqb tag t y, e)
+pub refused_letter : (i : ℕ) {r f : Option ℕ} → r ≡ f → r ≡ None → letter_says i f ≡ wrong i
+unfolding letter_says
+refused_letter i e g = ap (letter_says i) (sym e ∙ g)
 
 -- the form's letter is the reader's
 pub tagged_letter : (t i : ℕ) (ok : ℕ → Bool) (s : List ℕ) → length s ≡ 2 → (tagged t i (letter i ok)).parse s ≡ letter_says i (read_letter t ok (get_or s 0 0) (get_or s 1 0))

@@ -7,17 +7,14 @@ use native.Mathlib.Omega.{arith}
 use denote.Ref.{Bor}
 use lib.Dec.{eqb}
 use lib.ListN.{length, get_or}
-use Rattle.laws.proofs.Tests.{told, never}
-use Rattle.refusal.specs.Answer.{Answer, accepted, refused}
-use Rattle.refusal.specs.declared.Refusal.{Refusal}
-use Rattle.refusal.specs.declared.Verdict.TheVariants.{Done, Refused}
+use Rattle.std.specs.Prelude.{Ok}
+use Rattle.laws.proofs.Tests.{told}
+use Rattle.refusal.specs.Answer.{Answer}
 use Rattle.frame.specs.Frame.{ending_width}
 use Rattle.frame.specs.Message.{read_of}
 use Rattle.frame.proofs.Exactly.{reads_only, messages_long}
-use Rattle.fixed.specs.Fixed.{fixed_read}
 use Rattle.fixed.specs.Form.{fixed_form, fixed_length}
 use Rattle.fixed.specs.declared.Fixed.{Fixed}
-use Rattle.fixed.specs.declared.FixedRead.{FixedRead}
 use Rattle.fixed.proofs.Exact.{fixed_form_exact, fixed_form_width, fixed_lowest_lem}
 use Rattle.fixed.proofs.Given.{items_long}
 use Rattle.nreader.specs.Reader.{unspaced, trimmed, PartBy}
@@ -30,23 +27,11 @@ unspaced_low s (suc n) =
     let h = unspaced_low s n in
     told (eqb (get_or s n 0) 32) (λ e. rw e (omega arith)) (λ e. rw e (omega arith))
 
--- what the reader's verdict says of its answer
-pub done_is : (x : FixedRead) (a : Answer Fixed) → x ≡ fixed_read a → x.verdict ≡ Done → a ≡ accepted x.contents
-done_is x (accepted f) e h = ap (λ (y : FixedRead). accepted y.contents) (sym e)
-done_is x (refused r) e h = let z : Refused r ≡ Done = sym (ap (λ (y : FixedRead). y.verdict) e) ∙ h in never (cc)
-
-pub refused_is : (x : FixedRead) (a : Answer Fixed) (r : Refusal) → x ≡ fixed_read a → x.verdict ≡ Refused r → a ≡ refused r
-refused_is x (accepted f) r e h = let z : Done ≡ Refused r = sym (ap (λ (y : FixedRead). y.verdict) e) ∙ h in never (cc)
-refused_is x (refused q) r e h =
-    let z : Refused q ≡ Refused r = sym (ap (λ (y : FixedRead). y.verdict) e) ∙ h in
-    let y : q ≡ r = cc in
-    ap refused y
-
 -- the part by the answer that was given
 pub part_by : (m : Bor (List ℕ)) {a b : Answer Fixed} {p : Bor (List ℕ)} → a ≡ b → PartBy m b p → PartBy m a p
 part_by m {p = p} e = subst (λ (x : Answer Fixed). PartBy m x p) (sym e)
 
-module _ (checksum : Bool) (m : List ℕ) (f : Fixed) (e : read_of fixed_form checksum m ≡ accepted f) where
+module _ (checksum : Bool) (m : List ℕ) (f : Fixed) (e : read_of fixed_form checksum m ≡ Ok f) where
   accepted_long : length m ≡ fixed_length + ending_width checksum
   accepted_long =
       let p = reads_only fixed_form fixed_form_exact checksum m f e in

@@ -11,7 +11,7 @@ use Rattle.digits.specs.Digits.{read_decimal}
 use Rattle.codec.specs.Codec.{Got, got, wrong, passed, both, mapped, field_says, letter, number, text, tagged, read_tagged, text_behind}
 use Rattle.codec.proofs.Fields.{tagged_number, tagged_by, text_behind_lem}
 use Rattle.fixed.specs.Fixed.{kind_ok, letter_ok, fixed_of}
-use Rattle.fixed.specs.Form.{serial, owner, lens_of, lens_items, version, of_parts, fixed_form, fixed_length}
+use Rattle.fixed.specs.Form.{serial, owner, LensParts, lens_of, lens_items, version, of_parts, fixed_form, fixed_length}
 use Rattle.fixed.specs.declared.Lens.{Lens}
 use Rattle.nreader.specs.Reader.{read_letter, letter_says}
 use Rattle.nreader.proofs.Letters.{tagged_letter}
@@ -30,23 +30,36 @@ number_in : (t i w top : ℕ) {s s' : List ℕ} → s ≡ s' → (tagged t i (nu
 number_in t i w top {s' = s'} e = ap (tagged t i (number i 10 48 w top)).parse e ∙ sym (tagged_number t i 10 48 w top s')
 
 -- items 3 to 7
-pub lens_parts_lem : (s : List ℕ) → length s ≡ 15 → lens_items.parse s ≡ mapped lens_of
-    (both (letter_says 3 (read_letter 76 kind_ok (get_or s 0 0) (get_or s 1 0)))
-    (both (field_says 4 (read_tagged 78 (read_decimal 999) (take 4 (drop 2 s))))
-    (both (field_says 5 (read_tagged 77 (read_decimal 999) (take 4 (drop 6 s))))
-    (both (letter_says 6 (read_letter 85 letter_ok (get_or s 10 0) (get_or s 11 0)))
-    (field_says 7 (read_tagged 84 (read_decimal 99) (take 3 (drop 12 s))))))))
-unfolding lens_items
-lens_parts_lem s l =
-    let six : drop 4 (drop 2 s) ≡ drop 6 s = drop-drop 4 2 s in
-    let ten : drop 4 (drop 4 (drop 2 s)) ≡ drop 10 s = ap (drop 4) six ∙ drop-drop 4 6 s in
-    let twelve : drop 2 (drop 4 (drop 4 (drop 2 s))) ≡ drop 12 s = ap (drop 2) ten ∙ drop-drop 2 10 s in
-    ap (mapped lens_of)
-    (ap₂ both (letter_at 76 3 kind_ok s 0 (omega arith))
-    (ap₂ both (number_in 78 4 3 999 refl)
-    (ap₂ both (number_in 77 5 3 999 (ap (take 4) six))
-    (ap₂ both (ap (λ (r : List ℕ). (tagged 85 6 (letter 6 letter_ok)).parse (take 2 r)) ten ∙ letter_at 85 6 letter_ok s 10 (omega arith))
-    (number_in 84 7 2 99 (twelve ∙ sym (take_all 3 (drop 12 s) (simp length-drop (omega arith)))))))))
+module _ (s : List ℕ) (l : length s ≡ 15) where
+  abbrev items_found : Got LensParts
+  items_found =
+      both (letter_says 3 (read_letter 76 kind_ok (get_or s 0 0) (get_or s 1 0)))
+      (both (field_says 4 (read_tagged 78 (read_decimal 999) (take 4 (drop 2 s))))
+      (both (field_says 5 (read_tagged 77 (read_decimal 999) (take 4 (drop 6 s))))
+      (both (letter_says 6 (read_letter 85 letter_ok (get_or s 10 0) (get_or s 11 0)))
+      (field_says 7 (read_tagged 84 (read_decimal 99) (take 3 (drop 12 s)))))))
+
+  lens_parts_lem : lens_items.parse s ≡ mapped lens_of items_found
+  unfolding lens_items
+  lens_parts_lem =
+      let six : drop 4 (drop 2 s) ≡ drop 6 s = drop-drop 4 2 s in
+      let ten : drop 4 (drop 4 (drop 2 s)) ≡ drop 10 s = ap (drop 4) six ∙ drop-drop 4 6 s in
+      let twelve : drop 2 (drop 4 (drop 4 (drop 2 s))) ≡ drop 12 s = ap (drop 2) ten ∙ drop-drop 2 10 s in
+      ap (mapped lens_of)
+      (ap₂ both (letter_at 76 3 kind_ok s 0 (omega arith))
+      (ap₂ both (number_in 78 4 3 999 refl)
+      (ap₂ both (number_in 77 5 3 999 (ap (take 4) six))
+      (ap₂ both (ap (λ (r : List ℕ). (tagged 85 6 (letter 6 letter_ok)).parse (take 2 r)) ten ∙ letter_at 85 6 letter_ok s 10 (omega arith))
+      (number_in 84 7 2 99 (twelve ∙ sym (take_all 3 (drop 12 s) (simp length-drop (omega arith)))))))))
+
+  -- one of them is wrong, or all are right
+  pub lens_wrong_part : {i : ℕ} → items_found ≡ wrong i → wrong i ≡ lens_items.parse s
+  unfolding mapped
+  lens_wrong_part e = rw (lens_parts_lem, e)
+
+  pub lens_right : {p : LensParts} → items_found ≡ got p → got (lens_of p) ≡ lens_items.parse s
+  unfolding mapped
+  lens_right e = rw (lens_parts_lem, e)
 
 -- ---- the whole
 

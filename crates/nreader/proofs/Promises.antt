@@ -9,11 +9,10 @@ use borrow.Author.Tests.{eqb-true, eqb-false, ltb-true, ltb-false}
 use lib.Dec.{eqb, ltb}
 use lib.ListN.{length, get_or, take, drop}
 use lib.Seq.{take-take, take_at, drop-append-add}
+use Rattle.std.specs.Prelude.{Err, Ok}
 use Rattle.laws.proofs.Tests.{told}
-use Rattle.refusal.specs.Answer.{accepted, refused}
 use Rattle.frame.specs.Frame.{ending}
 use Rattle.frame.proofs.Exactly.{reads_only, one_message}
-use Rattle.fixed.specs.Fixed.{lens_in}
 use Rattle.fixed.specs.Form.{serial, owner, lens_items, version, fixed_form}
 use Rattle.fixed.specs.declared.Fixed.{Fixed}
 use Rattle.fixed.proofs.Exact.{fixed_form_exact, fixed_once, fixed_lowest_lem}
@@ -26,7 +25,7 @@ use Rattle.nreader.proofs.Owner.{unspaced_low, part_by}
 owner_at_lem : (f : Fixed) (r : List ℕ) → length f.serial ≡ 9 → length f.owner ≡ 31 → take 31 (drop 12 (fixed_form.print f ++ r)) ≡ f.owner
 unfolding fixed_form serial owner
 owner_at_lem f r s o =
-    let y = lens_items.print (lens_in f) ++ version.print f.version in
+    let y = lens_items.print f.lens ++ version.print f.version in
     let z : List ℕ = (79 ∷ (f.owner ++ y)) ++ r in
     ap (λ (x : List ℕ). take 31 (drop 10 x)) (append_assoc f.serial (79 ∷ (f.owner ++ y)) r)
     ∙ ap (λ (n : ℕ). take 31 (drop (n + 1) (f.serial ++ z))) (sym s)
@@ -45,12 +44,12 @@ owners_name checksum m f e =
 
 pub accepted_part : AcceptedPart
 accepted_part m checksum f r e p =
-    let q : PartBy m (accepted f) r = part_by m (sym e) p in
+    let q : PartBy m (Ok f) r = part_by m (sym e) p in
     (q.place, q.bytes ∙ owners_name checksum m.now f e)
 
 pub refused_part : RefusedPart
 refused_part m checksum x r e p =
-    let q : PartBy m (refused x) r = part_by m (sym e) p in
+    let q : PartBy m (Err x) r = part_by m (sym e) p in
     (q.place ∙ ap (λ (o : ℕ). (m.ref_ptr.0, o)) (zero-add m.ref_ptr.1), q.bytes)
 
 -- one byte more: a space is left out, and any other byte ends the part

@@ -5,11 +5,12 @@ use mathlib.Core.List.{List}
 use mathlib.Core.Path.{◌≡◌}
 use denote.Ref.{Bor}
 use Rattle.laws.proofs.OneAnswer.{one_answer}
-use Rattle.fixed.specs.declared.FixedRead.{FixedRead}
+use Rattle.fixed.specs.declared.Fixed.{Fixed}
+use Rattle.refusal.specs.Answer.{Answer}
 use Rattle.nreader.specs.Reader.{PartIs}
 use Rattle.nreader.specs.Clauses.{ReadFixed, TrimmedLength, OwnerPart}
 
-pub one_read_fixed : (m : List ℕ) (checksum : Bool) {r r' : FixedRead} → ReadFixed m checksum r → ReadFixed m checksum r' → r ≡ r'
+pub one_read_fixed : (m : List ℕ) (checksum : Bool) {r r' : Answer Fixed} → ReadFixed m checksum r → ReadFixed m checksum r' → r ≡ r'
 one_read_fixed m checksum = one_answer
 
 pub one_trimmed_length : (s : List ℕ) {r r' : ℕ} → TrimmedLength s r → TrimmedLength s r' → r ≡ r'

@@ -1,33 +1,30 @@
 -- What the code finds in parts of the N message, and the owner's name as a part of it.
-use Rattle.std.specs.Prelude.{ℕ, zero, suc, ◌+◌, Bool, ◌&&◌, cond, List, ◌≡◌, eqb, length, get_or, take, drop}
+use Rattle.std.specs.Prelude.{ℕ, zero, suc, ◌+◌, Bool, ◌&&◌, cond, List, ◌≡◌, eqb, length, get_or, take, drop, Err, None, Ok, Option, Result, Some}
 use Rattle.std.specs.Borrow.{Bor}
-use Rattle.refusal.specs.Answer.{Answer, accepted, refused}
+use Rattle.refusal.specs.declared.Wrong.{Wrong}
+use Rattle.refusal.specs.Answer.{Answer}
 use Rattle.codec.specs.Codec.{Got, got, wrong}
 use Rattle.fixed.specs.Fixed.{fixed_of}
 use Rattle.fixed.specs.declared.Fixed.{Fixed}
 use Rattle.fixed.specs.declared.Lens.{Lens}
-use Rattle.nreader.specs.declared.Letter.{Letter}
-use Rattle.nreader.specs.declared.Letter.TheVariants as letter
-use Rattle.nreader.specs.declared.Items.{Items}
-use Rattle.nreader.specs.declared.Items.TheVariants as items
 
 -- a letter that passes a test, behind the tag t
-unfoldable pub read_letter : ℕ → (ℕ → Bool) → ℕ → ℕ → Letter
-read_letter t ok tag b = cond (eqb tag t && ok b) (letter.Is b) letter.Wrong
+unfoldable pub read_letter : ℕ → (ℕ → Bool) → ℕ → ℕ → Option ℕ
+read_letter t ok tag b = cond (eqb tag t && ok b) (Some b) None
 
-unfoldable pub letter_says : ℕ → Letter → Got ℕ
-letter_says i (letter.Is b) = got b
-letter_says i letter.Wrong = wrong i
+unfoldable pub letter_says : ℕ → Option ℕ → Got ℕ
+letter_says i (Some b) = got b
+letter_says i None = wrong i
 
 -- what no text holds
-unfoldable pub lens_says : Items → Got Lens
-lens_says (items.Found l) = got l
-lens_says (items.Wrong i) = wrong i
+unfoldable pub lens_says : Result Lens Wrong → Got Lens
+lens_says (Ok l) = got l
+lens_says (Err w) = wrong w.0
 
 -- the contents s: their texts stand there, and the rest is what was found
-unfoldable pub items_says : List ℕ → Items → Got Fixed
-items_says s (items.Found l) = got (fixed_of (take 9 (drop 2 s)) (take 31 (drop 12 s)) l (take 4 (drop 61 s)))
-items_says s (items.Wrong i) = wrong i
+unfoldable pub items_says : List ℕ → Result Lens Wrong → Got Fixed
+items_says s (Ok l) = got (fixed_of (take 9 (drop 2 s)) (take 31 (drop 12 s)) l (take 4 (drop 61 s)))
+items_says s (Err w) = wrong w.0
 
 -- ---- the owner's part
 
@@ -42,12 +39,12 @@ trimmed s = unspaced s (length s)
 
 -- where the part starts, and how long it is, by the reader's answer: a refused message's is empty, at its start
 abbrev pub owner_at : Answer Fixed → ℕ
-owner_at (accepted f) = 12
-owner_at (refused r) = 0
+owner_at (Ok f) = 12
+owner_at (Err r) = 0
 
 abbrev pub owner_length : Answer Fixed → ℕ
-owner_length (accepted f) = trimmed f.owner
-owner_length (refused r) = 0
+owner_length (Ok f) = trimmed f.owner
+owner_length (Err r) = 0
 
 -- r is the n bytes of m from a on: their place, a block and an offset in it, and what they are
 pub record PartIs (m : Bor (List ℕ)) (a n : ℕ) (r : Bor (List ℕ)) : Type 0 where

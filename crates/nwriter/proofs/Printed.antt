@@ -6,16 +6,17 @@ use lib.ListN.{length, length-append}
 use Rattle.digits.specs.Digits.{digits}
 use Rattle.fixed.specs.Form.{serial, owner, lens_items, version, fixed_form, fixed_length}
 use Rattle.fixed.specs.declared.Fixed.{Fixed}
+use Rattle.fixed.specs.declared.Lens.{Lens}
 use Rattle.fixed.proofs.Given.{Long}
 use Rattle.nwriter.specs.Parts.{names_text, lens_text, version_text}
 
-pub printed : (f : Fixed) → names_text f ++ (lens_text f ++ version_text f) ≡ fixed_form.print f
+pub printed : (f : Fixed) → names_text f ++ (lens_text f.lens ++ version_text f) ≡ fixed_form.print f
 unfolding fixed_form names_text lens_text version_text
-printed f = append_assoc (serial.print f.serial) (owner.print f.owner) (lens_text f ++ version_text f)
+printed f = append_assoc (serial.print f.serial) (owner.print f.owner) (lens_text f.lens ++ version_text f)
 
-pub lens_long : (f : Fixed) → length (lens_text f) ≡ 15
+pub lens_long : (l : Lens) → length (lens_text l) ≡ 15
 unfolding lens_text lens_items digits
-lens_long f = refl
+lens_long l = refl
 
 module _ (f : Fixed) (l : Long f.serial f.owner f.version) where
   pub names_long : length (names_text f) ≡ 43

@@ -2,21 +2,20 @@
 use Prim.Native.Nat.{ℕ, zero, suc, ◌+◌, ◌-◌, ◌*◌, ◌/◌, ◌%◌, ◌^◌, ◌≤◌, ◌<◌}
 use mathlib.Core.Bool.{Bool, true, false, ◌&&◌, not, cond}
 use mathlib.Core.List.{List, [], ◌∷◌}
-use mathlib.Core.Path.{◌≡◌, refl, sym, subst, ◌∙◌}
-use native.Mathlib.Nat.{pow-suc, pow-succ', pow-zero, pow-le-pow_right, lt_of_lt_of_le}
+use mathlib.Core.Path.{◌≡◌, refl, sym, ◌∙◌}
+use native.Mathlib.Nat.{pow-succ', pow-zero}
 use native.Mathlib.Omega.{arith}
 use borrow.Author.Tests.{eq-eqb, ne_eqb, leb-true, ltb-true, le-leb, lt-ltb}
-use lib.Arith.{digits_lt}
 use lib.Dec.{leb, ltb, eqb}
 use lib.ListN.{length, get_or, drop, drop_of_length-le}
 use lib.Seq.{drop-cons}
 use Rattle.laws.proofs.EveryLaws.{every_head, every_tail}
-use Rattle.laws.proofs.Tests.{told, never, and_left, and_right}
+use Rattle.laws.proofs.Tests.{told, never, and_left, and_right, cond_yes}
 use Rattle.digits.proofs.Laws.{regroup}
 use Rattle.digits.specs.Digits.{value, is_digit, are_digits, only, read_field, read_digits, read_groups, widest}
 use Rattle.sign.specs.Sign.{below0, signed_of}
 use Rattle.pupil.specs.Pupil.{sign_byte}
-use Rattle.packed_bytes.specs.Bytes.{sixes, pupil_in}
+use Rattle.packed_bytes.specs.Bytes.{sixes, packed_number, pupil_in}
 
 -- ---- a group
 
@@ -53,10 +52,6 @@ pub onward_end : (n i : ℕ) (s : List ℕ) → length s ≤ i → onward n (dro
 unfolding sixes
 onward_end n i s h = rw (drop_of_length-le s h, pow-zero) (omega arith)
 
--- five groups fit 32 bits
-pub grows : (n d i : ℕ) → n < 64 ^ i → d < 64 → i < 5 → n * 64 + d < 64 ^ 5
-grows n d i h l m = lt_of_lt_of_le (digits_lt h l) (subst (λ (x : ℕ). x ≤ 64 ^ 5) (pow-suc 64 i) (pow-le-pow_right {n = 64} (omega arith) m))
-
 -- ---- what the reader finds
 
 -- of groups, the low bits are what they say
@@ -67,6 +62,11 @@ sixes_value (d ∷ s) h =
     let g = every_head _ d s h in
     let e : d % 64 ≡ d - 64 = omega (arith, least d g, most d g) in
     rw (e, sixes_value s (every_tail _ d s h))
+
+-- of five at most, the number is what the low bits say
+pub few_groups : (s : List ℕ) → length s ≤ 5 → packed_number s ≡ sixes s
+unfolding packed_number
+few_groups s few = cond_yes _ _ (le-leb _ _ few)
 
 -- so a reader of groups tests them, and the number
 pub groups_only : (top : ℕ) (s : List ℕ) → length s ≤ widest → read_groups top s ≡ only (are_digits 64 64 s && leb (sixes s) top) (sixes s)

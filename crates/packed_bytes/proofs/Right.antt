@@ -1,5 +1,5 @@
 -- What is tested of packed bytes is whether the packed form's reader finds anything wrong, and what it finds else is what the bytes say. Assumes nothing.
-use Prim.Native.Nat.{ℕ, ◌+◌, ◌/◌, ◌%◌, ◌≤◌}
+use Prim.Native.Nat.{ℕ, ◌+◌, ◌-◌, ◌/◌, ◌%◌, ◌≤◌, ◌<◌}
 use mathlib.Core.Bool.{Bool, true, false, ◌&&◌}
 use mathlib.Core.List.{List, [], ◌∷◌}
 use mathlib.Core.Path.{◌≡◌, refl, sym, ap, ap₂, ◌∙◌}
@@ -7,12 +7,12 @@ use native.Mathlib.Omega.{arith}
 use borrow.Author.Tests.{eq-eqb}
 use lib.Dec.{leb, eqb}
 use lib.ListN.{length, take, drop, get_or, length-drop}
-use lib.Seq.{drop-drop, length-take-le}
+use lib.Seq.{take-take, drop-drop, length-take-le}
+use Rattle.std.proofs.lemmas.List.{get_or-take}
+use Rattle.std.specs.Prelude.{Err, Ok}
 use Rattle.laws.proofs.ListLaws.{drop_of_take}
 use Rattle.laws.proofs.Tests.{told, never}
-use Rattle.refusal.specs.Answer.{Answer, accepted, refused, is_accepted}
-use Rattle.refusal.specs.declared.Verdict.{Verdict}
-use Rattle.refusal.specs.declared.Verdict.TheVariants.{Done, Refused}
+use Rattle.refusal.specs.Answer.{Answer, Verdict, is_accepted}
 use Rattle.digits.specs.Digits.{are_digits, only, read_groups}
 use Rattle.codec.specs.Codec.{Got, got, wrong, passed, both, mapped, field_says, text_behind, read_tagged}
 use Rattle.codec.proofs.Fields.{parsed_whole}
@@ -30,8 +30,8 @@ use Rattle.serial.proofs.Field.{serial_read}
 use Rattle.gather.specs.Gather.{record_with}
 use Rattle.gather.proofs.Laws.{record_parts}
 use Rattle.packed_reader.proofs.Parts.{front_width, middle_width, back_width, front_parts, middle_parts, back_parts}
-use Rattle.packed_bytes.specs.Bytes.{is_got, sixes, pupil_in, front_in, middle_in, back_in, packed_record}
-use Rattle.packed_bytes.proofs.Laws.{groups_only}
+use Rattle.packed_bytes.specs.Bytes.{is_got, sixes, packed_number, pupil_in, front_in, middle_in, back_in, packed_record}
+use Rattle.packed_bytes.proofs.Laws.{few_groups, groups_only}
 
 -- ---- a test, and what is found where it is passed
 
@@ -64,15 +64,18 @@ tested_only i false n = (refl, λ a k. never (cc))
 
 -- bytes that are a number of at most top, and a part of others, which is as long as it is cut
 abbrev pub is_number : ℕ → List ℕ → Bool
-is_number top s = are_digits 64 64 s && leb (sixes s) top
+is_number top s = are_digits 64 64 s && leb (packed_number s) top
 
 part : (n w : ℕ) (s : List ℕ) → n + w ≤ length s → length (take w (drop n s)) ≡ w
 part n w s h = length-take-le w (drop n s) (simp length-drop (omega arith))
 
-number : (i top n w : ℕ) (s : List ℕ) → w ≤ 9 → n + w ≤ length s →
+-- of a part
+number : (i top n w : ℕ) (s : List ℕ) → w ≤ 5 → n + w ≤ length s →
     Tested (field_says i (read_groups top (take w (drop n s)))) (is_number top (take w (drop n s))) (sixes (take w (drop n s)))
 number i top n w s few h =
-    rw (groups_only top (take w (drop n s)) (omega (arith, part n w s h))) (tested_only i (is_number top (take w (drop n s))) (sixes (take w (drop n s))))
+    let d = take w (drop n s) in
+    let short : length d ≤ 5 = omega (arith, part n w s h) in
+    rw (groups_only top d (omega arith), few_groups d short) (tested_only i (are_digits 64 64 d && leb (sixes d) top) (sixes d))
 
 focus : (s : List ℕ) → length s ≡ 9 →
     Tested (field_says 1 (read_tagged 100 (read_groups top_distance) (take 5 s))) (eqb (get_or s 0 0) 100 && is_number top_distance (take 4 (drop 1 s))) (sixes (take 4 (drop 1 s)))
@@ -88,11 +91,11 @@ tenth : (y : ℕ) → Tested (field_says 4 (read_tenth y)) (eqb (y / 128) 1 && l
 unfolding read_tenth
 tenth y = tested_only 4 _ (y % 64)
 
-pupil : (s : List ℕ) → length s ≡ 2 → Tested (pupil_says (read_pupil_packed s)) (is_number 4095 s && leb (sixes s % 2048) 999) (pupil_in (sixes s))
+pupil : (s : List ℕ) → length s ≡ 2 → Tested (pupil_says (read_pupil_packed s)) (is_number 4095 s && leb (packed_number s % 2048) 999) (pupil_in (sixes s))
 unfolding read_pupil_packed signed_field pupil_says
 pupil s l =
-    rw (eq-eqb _ _ l, groups_only 4095 s (omega arith))
-    (told (is_number 4095 s)
+    rw (eq-eqb _ _ l, groups_only 4095 s (omega arith), few_groups s (omega arith))
+    (told (are_digits 64 64 s && leb (sixes s) 4095)
     (λ y. told (leb (sixes s % 2048) 999) (λ low. rw (y, low) (refl, λ a k. cc)) (λ high. rw (y, high) (refl, λ a k. never (cc))))
     (λ n. rw n (refl, λ a k. never (cc))))
 
@@ -120,13 +123,38 @@ module _ (s : List ℕ) where
       (tested_both _ _ (number 7 top_distance 6 4 s (omega arith) (omega arith)) (number 8 top_distance 10 4 s (omega arith) (omega arith)))))
 
   abbrev pub is_back : Bool
-  is_back = is_number 4095 (take 2 s) && ((is_number 4095 (take 2 (drop 2 s)) && leb (sixes (take 2 (drop 2 s)) % 2048) 999) && is_number 1000 (take 2 (drop 4 s)))
+  is_back = is_number 4095 (take 2 s) && ((is_number 4095 (take 2 (drop 2 s)) && leb (packed_number (take 2 (drop 2 s)) % 2048) 999) && is_number 1000 (take 2 (drop 4 s)))
 
   pub back : length s ≡ 6 → Tested (back_packed.parse s) is_back (back_in s)
   back l =
       rw (sym (parsed_whole back_packed 9 back_width s l) ∙ back_parts s l)
       (tested_both _ _ (number 9 4095 0 2 s (omega arith) (omega arith))
       (tested_both _ _ (pupil _ (part 2 2 s (omega arith))) (number 11 1000 4 2 s (omega arith) (omega arith))))
+
+-- ---- the same of a record's bytes
+
+-- a part of a part
+pub part_of : (a k n w : ℕ) (s : List ℕ) → n + w ≤ k → take w (drop n (take k (drop a s))) ≡ take w (drop (a + n) s)
+part_of a k n w s h =
+    ap (take w) (drop_of_take n (k - n) k (drop a s) (omega arith)) ∙ take-take w (k - n) (drop n (drop a s)) (omega arith) ∙ ap (take w) (drop-drop n a s)
+
+module _ (s : List ℕ) (l : length s ≡ packed_length) where
+  pub front_says : is_front s ≡ is_got (front_packed.parse (take 9 s))
+  front_says =
+      rw (← part_of 0 9 1 4 s (omega arith), ← part_of 0 9 5 2 s (omega arith), ← get_or-take 9 s 0 0 (omega arith), ← get_or-take 9 s 7 0 (omega arith), ← get_or-take 9 s 8 0 (omega arith))
+      (front (take 9 s) (length-take-le 9 s (omega arith))).0
+
+  pub middle_says : (is_number 1023 (take 2 (drop 9 s)) && (is_number top_distance (take 4 (drop 11 s)) && (is_number top_distance (take 4 (drop 15 s)) && is_number top_distance (take 4 (drop 19 s)))))
+      ≡ is_got (middle_packed.parse (take 14 (drop 9 s)))
+  middle_says =
+      rw (← part_of 9 14 0 2 s (omega arith), ← part_of 9 14 2 4 s (omega arith), ← part_of 9 14 6 4 s (omega arith), ← part_of 9 14 10 4 s (omega arith))
+      (middle (take 14 (drop 9 s)) (part 9 14 s (omega arith))).0
+
+  pub back_says : (is_number 4095 (take 2 (drop 23 s)) && ((is_number 4095 (take 2 (drop 25 s)) && leb (packed_number (take 2 (drop 25 s)) % 2048) 999) && is_number 1000 (take 2 (drop 27 s))))
+      ≡ is_got (back_packed.parse (take 6 (drop 23 s)))
+  back_says =
+      rw (← part_of 23 6 0 2 s (omega arith), ← part_of 23 6 2 2 s (omega arith), ← part_of 23 6 4 2 s (omega arith))
+      (back (take 6 (drop 23 s)) (part 23 6 s (omega arith))).0
 
 -- ---- a record
 
@@ -151,11 +179,11 @@ module _ (s : List ℕ) (l : length s ≡ packed_length) where
 
 -- ---- a message
 
-found_is : (c r : Record) → found (got c) ≡ accepted r → c ≡ r
+found_is : (c r : Record) → found (got c) ≡ Ok r → c ≡ r
 unfolding found
 found_is c r e = cc
 
-not_found : (i : ℕ) (r : Record) → found {A = Record} (wrong i) ≡ accepted r → ◌≡◌ {A = ℕ} 0 1
+not_found : (i : ℕ) (r : Record) → found {A = Record} (wrong i) ≡ Ok r → ◌≡◌ {A = ℕ} 0 1
 unfolding found
 not_found i r e = never (cc)
 
@@ -171,20 +199,27 @@ written_says r h =
     (long, sym ((whole (packed_form.print r) long refl refl refl).1 r (packed_form_exact.back r h)))
 
 -- what the reader accepts is what the bytes of the contents say
-pub says : (checksum : Bool) (m : List ℕ) (r : Record) → read_of packed_form checksum m ≡ accepted r → packed_record (take packed_length m) ≡ r
+pub says : (checksum : Bool) (m : List ℕ) (r : Record) → read_of packed_form checksum m ≡ Ok r → packed_record (take packed_length m) ≡ r
 says checksum m r e = by (opening checksum packed_length m) refl where
-  found_so : length (take packed_length m) ≡ packed_length → (q : Got Record) → packed_form.parse (take packed_length m) ≡ q → found q ≡ accepted r → packed_record (take packed_length m) ≡ r
+  found_so : length (take packed_length m) ≡ packed_length → (q : Got Record) → packed_form.parse (take packed_length m) ≡ q → found q ≡ Ok r → packed_record (take packed_length m) ≡ r
   found_so l (got c) k f = sym ((whole (take packed_length m) l refl refl refl).1 c k) ∙ found_is c r f
   found_so l (wrong i) k f = never (not_found i r f)
 
   by : (v : Verdict) → opening checksum packed_length m ≡ v → packed_record (take packed_length m) ≡ r
-  by (Refused x) o = never (cc (sym (reads_refused packed_form packed_length packed_form_width checksum m x o) ∙ e))
-  by Done o =
+  by (Err x) o = never (cc (sym (reads_refused packed_form packed_length packed_form_width checksum m x o) ∙ e))
+  by (Ok tt) o =
       found_so (length-take-le packed_length m (omega (arith, (opens checksum packed_length m o).long))) (packed_form.parse (take packed_length m)) refl
       (sym (reads_on packed_form packed_length packed_form_width checksum m o) ∙ e)
 
-pub accepted_so : (checksum : Bool) (m : List ℕ) → is_accepted (read_of packed_form checksum m) ≡ true → read_of packed_form checksum m ≡ accepted (packed_record (take packed_length m))
+pub accepted_so : (checksum : Bool) (m : List ℕ) → is_accepted (read_of packed_form checksum m) ≡ true → read_of packed_form checksum m ≡ Ok (packed_record (take packed_length m))
 accepted_so checksum m h = by (read_of packed_form checksum m) refl where
-  by : (a : Answer Record) → read_of packed_form checksum m ≡ a → read_of packed_form checksum m ≡ accepted (packed_record (take packed_length m))
-  by (accepted r) e = e ∙ ap accepted (sym (says checksum m r e))
-  by (refused x) e = never (cc (sym (ap is_accepted e) ∙ h))
+  by : (a : Answer Record) → read_of packed_form checksum m ≡ a → read_of packed_form checksum m ≡ Ok (packed_record (take packed_length m))
+  by (Ok r) e = e ∙ ap Ok (sym (says checksum m r e))
+  by (Err x) e = never (cc (sym (ap is_accepted e) ∙ h))
+
+-- and nothing shorter than the contents is accepted
+pub too_short : (checksum : Bool) (m : List ℕ) → length m < packed_length → is_accepted (read_of packed_form checksum m) ≡ false
+too_short checksum m h = by (opening checksum packed_length m) refl where
+  by : (v : Verdict) → opening checksum packed_length m ≡ v → is_accepted (read_of packed_form checksum m) ≡ false
+  by (Err x) o = ap is_accepted (reads_refused packed_form packed_length packed_form_width checksum m x o)
+  by (Ok tt) o = absurd (omega (arith, (opens checksum packed_length m o).long))

@@ -1,14 +1,13 @@
 // A packed record's bytes: what they say, and whether they are right.
 #![tactic(auto)]
 
-ghost use Rattle.std.specs.Prelude.{◌&&◌, ◌≡◌, ◌≤◌, ◌<◌, leb, length};
+ghost use Rattle.std.specs.Prelude.{◌&&◌, ◌≡◌, ◌<◌, leb, take, drop};
 ghost use Rattle.digits.specs.Digits.{are_digits};
-ghost use Rattle.record.specs.Forms.{front_packed, middle_packed, back_packed, packed_form, packed_length};
-ghost use Rattle.packed_bytes.specs.Bytes.{is_got, sixes, quad_in};
+ghost use Rattle.record.specs.Forms.{front_packed, middle_packed, back_packed, packed_form};
+ghost use Rattle.packed_bytes.specs.Bytes.{is_got, sixes, packed_number, quad_in};
 ghost use Rattle.packed_bytes.specs.Clauses.{Quad, NumberIn, StopIn, SignIn, IsRight};
 
 use record::PACKED_LENGTH;
-use refusal::Verdict;
 
 // ---- what they say
 
@@ -17,10 +16,8 @@ fn are_groups(s: &[u8]) -> bool
     ensures { result ≡ are_digits 64 64 s.now }
 {
     let mut all = true;
-    let mut i = 0;
-    while i < s.len() {
-        all = all & (s[i] / 64 == 1);
-        i += 1;
+    for &byte in s {
+        all &= byte / 64 == 1;
     }
     all
 }
@@ -29,20 +26,18 @@ fn are_groups(s: &[u8]) -> bool
 pub fn quad(a: u8, b: u8, c: u8, d: u8) -> u64
     ensures { Quad a b c d result }
 {
-    a as u64 + 256 * (b as u64) + 65536 * (c as u64) + 16777216 * (d as u64)
+    u64::from(u32::from_le_bytes([a, b, c, d]))
 }
 
-// Those of a slice.
-fn four_in(s: &[u8]) -> u64
-    requires { length s.now ≡ 4 }
+// Those of an array.
+fn four_in(s: &[u8; 4]) -> u64
     ensures { (result ≡ quad_in s.now) × (result < 4294967296) }
 {
     quad(s[0], s[1], s[2], s[3])
 }
 
 // The number in four groups, whatever is above their six bits: first and third at once, second and fourth at once, then the two pairs.
-fn distance_in(s: &[u8]) -> u32
-    requires { length s.now ≡ 4 }
+fn distance_in(s: &[u8; 4]) -> u32
     ensures { result ≡ sixes s.now }
 {
     let x = four_in(s);
@@ -50,31 +45,21 @@ fn distance_in(s: &[u8]) -> u32
     (pairs % 65536 * 4096 + pairs / 65536) as u32
 }
 
-// The number in up to five groups.
-fn up_to_five(s: &[u8]) -> u32
-    requires { length s.now ≤ 5 }
-    ensures { result ≡ sixes s.now }
-{
-    if s.len() == 4 {
-        return distance_in(s);
-    }
-    let mut n = 0;
-    let mut i = 0;
-    while i < s.len() {
-        n = n * 64 + s[i] as u32 % 64;
-        i += 1;
-    }
-    n
-}
-
-// The same of any slice; 0 for more than five.
+// The number in up to five groups; 0 for more, which no field has.
 pub fn number_in(s: &[u8]) -> u32
     ensures { NumberIn s.now result }
 {
     if 5 < s.len() {
         return 0;
     }
-    up_to_five(s)
+    if let Some(four) = s.as_array::<4>() {
+        return distance_in(four);
+    }
+    let mut n = 0;
+    for &byte in s {
+        n = n * 64 + u32::from(byte) % 64;
+    }
+    n
 }
 
 // The stop in a shared pair.
@@ -99,16 +84,14 @@ pub fn sign_in(code: u32) -> u8
 
 // Whether bytes are groups, and say a number of at most top.
 fn is_number(s: &[u8], top: u32) -> bool
-    requires { length s.now ≤ 5 }
-    ensures { result ≡ (are_digits 64 64 s.now && leb (sixes s.now) top) }
+    ensures { result ≡ (are_digits 64 64 s.now && leb (packed_number s.now) top) }
 {
-    are_groups(s) & (up_to_five(s) <= top)
+    are_groups(s) & (number_in(s) <= top)
 }
 
 // Whether fields 1 to 4 are right.
-fn is_front(s: &[u8]) -> bool
-    requires { length s.now ≡ 9 }
-    ensures { result ≡ is_got (front_packed.parse s.now) }
+fn is_front(s: &[u8; PACKED_LENGTH]) -> bool
+    ensures { result ≡ is_got (front_packed.parse (take 9 s.now)) }
 {
     let focus = (s[0] == b'd') & is_number(&s[1..5], 9999999);
     let aperture = is_number(&s[5..7], 4095);
@@ -118,34 +101,31 @@ fn is_front(s: &[u8]) -> bool
 }
 
 // Whether fields 5 to 8 are.
-fn is_middle(s: &[u8]) -> bool
-    requires { length s.now ≡ 14 }
-    ensures { result ≡ is_got (middle_packed.parse s.now) }
+fn is_middle(s: &[u8; PACKED_LENGTH]) -> bool
+    ensures { result ≡ is_got (middle_packed.parse (take 14 (drop 9 s.now))) }
 {
-    let focal = is_number(&s[0..2], 1023);
-    let hyperfocal = is_number(&s[2..6], 9999999);
-    let near = is_number(&s[6..10], 9999999);
-    let far = is_number(&s[10..14], 9999999);
+    let focal = is_number(&s[9..11], 1023);
+    let hyperfocal = is_number(&s[11..15], 9999999);
+    let near = is_number(&s[15..19], 9999999);
+    let far = is_number(&s[19..23], 9999999);
     focal & (hyperfocal & (near & far))
 }
 
 // Whether fields 9 to 11 are.
-fn is_back(s: &[u8]) -> bool
-    requires { length s.now ≡ 6 }
-    ensures { result ≡ is_got (back_packed.parse s.now) }
+fn is_back(s: &[u8; PACKED_LENGTH]) -> bool
+    ensures { result ≡ is_got (back_packed.parse (take 6 (drop 23 s.now))) }
 {
-    let view = is_number(&s[0..2], 4095);
-    let pupil = is_number(&s[2..4], 4095) & (up_to_five(&s[2..4]) % 2048 <= 999);
-    let zoom = is_number(&s[4..6], 1000);
+    let view = is_number(&s[23..25], 4095);
+    let pupil = is_number(&s[25..27], 4095) & (number_in(&s[25..27]) % 2048 <= 999);
+    let zoom = is_number(&s[27..29], 1000);
     view & (pupil & zoom)
 }
 
 // Whether all of a record are.
-fn is_record(s: &[u8]) -> bool
-    requires { length s.now ≡ packed_length }
+fn is_record(s: &[u8; PACKED_LENGTH]) -> bool
     ensures { result ≡ is_got (packed_form.parse s.now) }
 {
-    let figures = is_front(&s[0..9]) & (is_middle(&s[9..23]) & is_back(&s[23..29]));
+    let figures = is_front(s) & (is_middle(s) & is_back(s));
     figures & codec::is_behind(&s[29..PACKED_LENGTH], b"S")
 }
 
@@ -153,8 +133,8 @@ fn is_record(s: &[u8]) -> bool
 pub fn is_right(m: &[u8], checksum: bool) -> bool
     ensures { IsRight m.now checksum result }
 {
-    match frame::open(m, PACKED_LENGTH, checksum) {
-        Verdict::Refused(_) => false,
-        Verdict::Done => is_record(&m[0..PACKED_LENGTH]),
-    }
+    let Some(s) = m.first_chunk::<PACKED_LENGTH>() else {
+        return false;
+    };
+    frame::open(m, PACKED_LENGTH, checksum).is_ok() && is_record(s)
 }

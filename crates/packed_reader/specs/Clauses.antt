@@ -1,13 +1,11 @@
 -- What each public function promises: its answer.
 use Rattle.std.specs.Prelude.{ℕ, Bool, List, ◌≡◌}
+use Rattle.record.specs.declared.Record.{Record}
+use Rattle.refusal.specs.Answer.{Answer}
 use Rattle.codec.specs.Codec.{parsed}
 use Rattle.frame.specs.Message.{found, read_of}
 use Rattle.record.specs.Forms.{front_packed, middle_packed, back_packed, packed_form}
-use Rattle.record.specs.Record.{record_read}
-use Rattle.record.specs.declared.RecordRead.{RecordRead}
-use Rattle.gather.specs.Gather.{four_says, three_says}
-use Rattle.gather.specs.declared.Four.{Four}
-use Rattle.gather.specs.declared.Three.{Three}
+use Rattle.gather.specs.Gather.{four_says, three_says, Four, Three}
 
 abbrev pub ReadFront : List ℕ → Four → Type 0
 ReadFront s r = four_says r ≡ parsed front_packed 1 s
@@ -18,8 +16,8 @@ ReadMiddle s r = four_says r ≡ parsed middle_packed 5 s
 abbrev pub ReadBack : List ℕ → Three → Type 0
 ReadBack s r = three_says r ≡ parsed back_packed 9 s
 
-abbrev pub ReadContents : List ℕ → RecordRead → Type 0
-ReadContents s a = a ≡ record_read (found (parsed packed_form 1 s))
+abbrev pub ReadContents : List ℕ → Answer Record → Type 0
+ReadContents s a = a ≡ found (parsed packed_form 1 s)
 
-abbrev pub ReadPacked : List ℕ → Bool → RecordRead → Type 0
-ReadPacked m checksum a = a ≡ record_read (read_of packed_form checksum m)
+abbrev pub ReadPacked : List ℕ → Bool → Answer Record → Type 0
+ReadPacked m checksum a = a ≡ read_of packed_form checksum m

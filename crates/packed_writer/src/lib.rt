@@ -2,18 +2,16 @@
 // 9..23, back 23..29, serial 29..39.
 #![tactic(auto)]
 
-ghost use Rattle.std.specs.Prelude.{◌≡◌, ◌≤◌, length};
+ghost use Rattle.std.specs.Prelude.{◌≡◌};
 ghost use Rattle.laws.specs.Over.{over};
-ghost use Rattle.record.specs.Forms.{front_packed, middle_packed, back_packed, packed_length, front_of, middle_of, back_of};
+ghost use Rattle.record.specs.Forms.{front_packed, middle_packed, back_packed, front_of, middle_of, back_of};
 ghost use Rattle.packed_writer.specs.Clauses.{PutPackedRecord, WritePacked};
 
-use frame::Wrote;
 use record::{Figures, PACKED_LENGTH, Record};
 use refusal::Refusal;
 
 // Writes d and four groups, two groups, the shared pair.
-fn put_front(out: &mut [u8], f: Figures)
-    requires { packed_length ≤ length out.old }
+fn put_front(out: &mut [u8; PACKED_LENGTH], f: Figures)
     ensures { out.new ≡ over out.old 0 (front_packed.print (front_of f)) }
 {
     lent::put_byte(out, 0, b'd');
@@ -23,8 +21,7 @@ fn put_front(out: &mut [u8], f: Figures)
 }
 
 // Writes the focal length and three distances.
-fn put_middle(out: &mut [u8], f: Figures)
-    requires { packed_length ≤ length out.old }
+fn put_middle(out: &mut [u8; PACKED_LENGTH], f: Figures)
     ensures { out.new ≡ over out.old 9 (middle_packed.print (middle_of f)) }
 {
     digits::put_groups(out, 9, 2, f.focal);
@@ -34,8 +31,7 @@ fn put_middle(out: &mut [u8], f: Figures)
 }
 
 // Writes the view, the pupil and the zoom.
-fn put_back(out: &mut [u8], f: Figures)
-    requires { packed_length ≤ length out.old }
+fn put_back(out: &mut [u8; PACKED_LENGTH], f: Figures)
     ensures { out.new ≡ over out.old 23 (back_packed.print (back_of f)) }
 {
     let e = f.pupil;
@@ -48,9 +44,9 @@ fn put_back(out: &mut [u8], f: Figures)
 pub fn put_packed_record(out: &mut [u8], r: Record)
     ensures { PutPackedRecord out.old r out.new }
 {
-    if out.len() < PACKED_LENGTH {
+    let Some(out) = out.first_chunk_mut::<PACKED_LENGTH>() else {
         return;
-    }
+    };
     let figures = r.figures;
     let serial = r.serial;
     put_front(out, figures);
@@ -60,18 +56,14 @@ pub fn put_packed_record(out: &mut [u8], r: Record)
 }
 
 // Writes a whole message: the lowest field out of range is refused first, then too little room.
-pub fn write_packed(r: Record, checksum: bool, out: &mut [u8]) -> Wrote
+pub fn write_packed(r: Record, checksum: bool, out: &mut [u8]) -> Result<usize, Refusal>
     ensures { WritePacked r checksum out.old result out.new }
 {
-    let lowest = record::lowest_field(r);
-    if lowest != 0 {
-        return Wrote::Refused(Refusal::Field(lowest));
+    if let Some(lowest) = record::lowest_field(r) {
+        return Err(Refusal::Field(lowest));
     }
-    let answer = frame::room_for(out.len(), PACKED_LENGTH as u32, checksum);
-    let Wrote::Count(n) = answer else {
-        return answer;
-    };
+    let n = frame::room_for(out.len(), PACKED_LENGTH as u32, checksum)?;
     put_packed_record(out, r);
     frame::put_ending(out, PACKED_LENGTH, checksum);
-    Wrote::Count(n)
+    Ok(n)
 }

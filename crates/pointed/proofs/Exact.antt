@@ -9,11 +9,10 @@ use native.Mathlib.Omega.{arith}
 use borrow.Author.Tests.{leb-true, le-leb, le-ltb}
 use lib.Dec.{leb}
 use lib.ListN.{length, drop, length-append}
+use Rattle.std.specs.Prelude.{None, Option, Some}
 use Rattle.laws.specs.Member.{◌∈◌}
 use Rattle.laws.proofs.MemberLaws.{the_only}
 use Rattle.digits.specs.Digits.{only, decimal, widest}
-use Rattle.digits.specs.declared.Field.{Field}
-use Rattle.digits.specs.declared.Field.TheVariants.{Value, Wrong}
 use Rattle.digits.proofs.Laws.{length_digits}
 use Rattle.codec.specs.Codec.{spellings, passed, failing, both, chained, field_says, number, tagged, ◌⊗◌}
 use Rattle.codec.proofs.Exact.{Exact, Codes, holds, fine, first_zero, zero_first, passed_is}
@@ -80,12 +79,12 @@ unfolding field_says passed
 says_only i n true = refl
 says_only i n false = refl
 
-says_tenths : (i top : ℕ) (f g : Field) →
+says_tenths : (i top : ℕ) (f g : Option ℕ) →
     field_says i (with_tenths top f g) ≡ chained (λ (p : ℕ × ℕ). passed (leb (p.0 * 10 + p.1) top) i (p.0 * 10 + p.1)) (both (field_says i f) (field_says i g))
 unfolding with_tenths field_says chained both
-says_tenths i top (Value a) (Value b) = says_only i (a * 10 + b) (leb (a * 10 + b) top)
-says_tenths i top (Value a) Wrong = refl
-says_tenths i top Wrong g = refl
+says_tenths i top (Some a) (Some b) = says_only i (a * 10 + b) (leb (a * 10 + b) top)
+says_tenths i top (Some a) None = refl
+says_tenths i top None g = refl
 
 pub pointed_read : (i w top : ℕ) (s : List ℕ) → length s ≡ w + 2 → field_says i (read_pointed top s) ≡ (pointed i w top).parse s
 unfolding pointed read_pointed

@@ -3,8 +3,6 @@
 
 ghost use Rattle.pointed.specs.Clauses.{PutPointed, ReadPointed};
 
-use digits::Field;
-
 // Writes the whole part as width digits, the point, and the tenths: all digits, then the point before the last.
 pub fn put_pointed(out: &mut [u8], at: usize, width: usize, n: u32)
     ensures { PutPointed out.old at width n out.new }
@@ -21,23 +19,19 @@ pub fn put_pointed(out: &mut [u8], at: usize, width: usize, n: u32)
 }
 
 // Reads the whole of s as a number in tenths that is at most top.
-pub fn read_pointed(s: &[u8], top: u16) -> Field
+pub fn read_pointed(s: &[u8], top: u16) -> Option<u32>
     ensures { ReadPointed s.now top result }
 {
     if s.len() < 2 {
-        return Field::Wrong;
+        return None;
     }
     let whole_width = s.len() - 2;
     let most = top as u32;
-    let Field::Value(whole) = digits::read_decimal(&s[..whole_width], most) else {
-        return Field::Wrong;
-    };
-    let Field::Value(tenth) = codec::read_tagged(&s[whole_width..], b'.', 9) else {
-        return Field::Wrong;
-    };
+    let whole = digits::read_decimal(&s[..whole_width], most)?;
+    let tenth = codec::read_tagged(&s[whole_width..], b'.', 9)?;
     let n = whole * 10 + tenth;
     if most < n {
-        return Field::Wrong;
+        return None;
     }
-    Field::Value(n)
+    Some(n)
 }

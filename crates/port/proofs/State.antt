@@ -1,13 +1,15 @@
 -- A valid port is one of ours, part by part, and the rate moves with a message's last byte and not before. Assumes nothing.
-use Prim.Native.Nat.{ℕ, ◌+◌, ◌<◌}
+use Prim.Native.Nat.{ℕ, ◌+◌, ◌≤◌, ◌<◌}
 use mathlib.Core.Bool.{true}
 use mathlib.Core.Logic.{◌⊎◌, inl, inr, ⊎_elim}
-use mathlib.Core.Path.{◌≡◌, refl, ap, ◌∙◌}
+use mathlib.Core.Path.{◌≡◌, refl, ap, subst, ◌∙◌}
 use native.Mathlib.Omega.{arith}
 use borrow.Author.Tests.{le-leb, leb-true, lt-ltb, eq-eqb, ne_eqb}
 use lib.Dec.{leb}
+use Rattle.std.specs.Prelude.{Option, None, Some}
 use Rattle.laws.proofs.Tests.{and_right, and_both, cond_yes, cond_no}
 use Rattle.line.specs.Line.{line_length}
+use Rattle.line.specs.declared.Line.{Line}
 use Rattle.units.specs.Units.{is_unit}
 use Rattle.units.proofs.Nearest.{either}
 use Rattle.state.specs.declared.Source.{Source}
@@ -15,9 +17,9 @@ use Rattle.state.specs.State.{message_length, valid_message}
 use Rattle.rules.proofs.Valid.{valid_told, valid_made}
 use Rattle.port.specs.declared.Port.{Port}
 use Rattle.port.specs.declared.Slotted.{Slotted}
-use Rattle.port.specs.Port.{valid_port, moved_if, send_from, slot_of}
+use Rattle.port.specs.Port.{valid_waiting, valid_port, moved_if, send_from, slot_of}
 use Rattle.port.specs.Promises.{Ours, SixteenWhen, RateWhen}
-use Rattle.port.proofs.Valid.{source_valid, message_valid, message_low, line_valid, made_valid}
+use Rattle.port.proofs.Valid.{source_valid, message_valid, message_low, waiting_valid, made_valid}
 
 told_ours : (p : Port) → valid_port p ≡ true → Ours p
 unfolding valid_message
@@ -32,8 +34,12 @@ told_ours p v =
       next_rate_lem = leb-true _ 7 q.next_rate_lem;
       message = message_low p.message (message_valid p v);
       sent = leb-true _ _ (and_right (leb p.message.len message_length) _ (message_valid p v));
-      waiting = leb-true _ line_length (line_valid p v);
+      waiting = λ l e. leb-true _ line_length (subst (λ (w : Option Line). valid_waiting w ≡ true) e (waiting_valid p v));
     }
+
+made_waiting : (w : Option Line) → ((l : Line) → w ≡ Some l → l.len ≤ line_length) → valid_waiting w ≡ true
+made_waiting (Some l) h = le-leb _ line_length (h l refl)
+made_waiting None h = refl
 
 made_ours : (p : Port) → Ours p → valid_port p ≡ true
 unfolding valid_message
@@ -49,7 +55,7 @@ made_ours p o =
       next_rate_lem = le-leb _ 7 o.next_rate_lem;
     }))
     (and_both (le-leb _ message_length o.message) (le-leb _ _ o.sent))
-    (le-leb _ line_length o.waiting)
+    (made_waiting p.waiting o.waiting)
 
 pub sixteen_when : SixteenWhen
 sixteen_when p = (told_ours p, made_ours p)

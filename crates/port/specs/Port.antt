@@ -1,8 +1,7 @@
 -- The port's entries on its state by value: document 01's 'The port, slot by slot'. The contracts cite these.
-use Rattle.std.specs.Prelude.{ℕ, ◌+◌, Bool, true, false, ◌&&◌, ◌||◌, cond, List, [], ◌∷◌, ltb, eqb, pos, get_or, replicate}
+use Rattle.std.specs.Prelude.{ℕ, ◌+◌, Bool, true, false, ◌&&◌, ◌||◌, cond, List, [], ◌∷◌, ltb, eqb, pos, get_or, replicate, Option, None, Some, is_some, Ok, Err}
+use Rattle.refusal.specs.Answer.{Verdict}
 use Rattle.refusal.specs.declared.Refusal.TheVariants as refusal
-use Rattle.refusal.specs.declared.Verdict.{Verdict}
-use Rattle.refusal.specs.declared.Verdict.TheVariants.{Done, Refused}
 use Rattle.fixed.specs.declared.Settings.{Settings}
 use Rattle.record.specs.Record.{no_figures}
 use Rattle.fixed.specs.Fixed.{no_fixed, settings_lowest}
@@ -14,20 +13,23 @@ use Rattle.state.specs.declared.Last.{Last}
 use Rattle.state.specs.declared.Last.TheVariants as last
 use Rattle.state.specs.declared.Message.{Message}
 use Rattle.state.specs.declared.Source.{Source}
-use Rattle.state.specs.declared.Waiting.{Waiting}
 use Rattle.state.specs.State.{unsent, valid_message, valid_source}
 use Rattle.rules.specs.Does.{with_modes, rate_moved, does, counts, continuous, record_message}
 use Rattle.rules.specs.Lens.{start_modes, greeting}
 use Rattle.port.specs.declared.Port.{Port}
-use Rattle.port.specs.declared.Sent.TheVariants as sent
 use Rattle.port.specs.declared.Slotted.{Slotted}
 use Rattle.port.specs.declared.Received.{Received}
 use Rattle.port.specs.declared.Handed.{Handed}
 use Rattle.port.specs.declared.Started.{Started}
 
+-- the line that waits, if one does
+abbrev pub valid_waiting : Option Line → Bool
+valid_waiting (Some l) = valid_line l
+valid_waiting None = true
+
 -- 16 covers the source, the message under way and the line that waits
 unfoldable pub valid_port : Port → Bool
-valid_port p = valid_source p.source && (valid_message p.message && valid_line p.waiting.line)
+valid_port p = valid_source p.source && (valid_message p.message && valid_waiting p.waiting)
 
 -- ---- a slot
 
@@ -46,17 +48,14 @@ sent_up_to p at = record {
 
 -- the byte at a place leaves
 unfoldable pub send_from : Port → ℕ → Slotted
-send_from p at = record { sent = sent.Byte (get_or p.message.bytes at 0); port = sent_up_to p (at + 1) }
+send_from p at = record { sent = Ok (Some (get_or p.message.bytes at 0)); port = sent_up_to p (at + 1) }
 
 -- a message starts: its first byte leaves
-unfoldable pub begun_with : Source → Message → Last → Waiting → Slotted
+unfoldable pub begun_with : Source → Message → Last → Option Line → Slotted
 begun_with s m k w = send_from (record { source = s; message = m; last = k; waiting = w }) 0
 
-abbrev pub begins : Source → List ℕ → Last → Waiting → Slotted
+abbrev pub begins : Source → List ℕ → Last → Option Line → Slotted
 begins s xs k w = begun_with s (unsent xs) k w
-
-abbrev pub nobody : Waiting
-nobody = record { some = false; line = blank }
 
 -- rules 1 and 3: a record starts
 unfoldable pub begins_record : Port → Slotted
@@ -64,7 +63,7 @@ begins_record p = begins p.source (record_message p.source) last.Record p.waitin
 
 -- rules 3 and 4: a record, where continuous sending is on; else the slot is idle
 unfoldable pub rest_of : Port → Slotted
-rest_of p = cond (continuous p.source) (begins_record p) (record { sent = sent.Idle; port = p })
+rest_of p = cond (continuous p.source) (begins_record p) (record { sent = Ok None; port = p })
 
 -- < counts as neither
 abbrev pub reply_last : Bool → Last
@@ -72,18 +71,23 @@ reply_last true = last.Reply
 reply_last false = last.Neither
 
 abbrev pub freed : Port → Source → Port
-freed p s = record { source = s; message = p.message; last = p.last; waiting = nobody }
+freed p s = record { source = s; message = p.message; last = p.last; waiting = None }
 
 -- a reply starts, if there is one; the waiting place is free
 unfoldable pub answers : Port → Source → List ℕ → Last → Slotted
 answers p s [] k = rest_of (freed p s)
-answers p s (b ∷ bs) k = begins s (b ∷ bs) k nobody
+answers p s (b ∷ bs) k = begins s (b ∷ bs) k None
 
 -- rule 2: the command that waits is acted on
-unfoldable pub act_of : Port → Slotted
-act_of p =
-    let d = does p.source p.waiting.line in
-    answers p d.source d.reply (reply_last (counts p.source p.waiting.line))
+unfoldable pub act_of : Port → Line → Slotted
+act_of p l =
+    let d = does p.source l in
+    answers p d.source d.reply (reply_last (counts p.source l))
+
+-- rules 2 to 4
+abbrev pub act_or_rest : Port → Option Line → Slotted
+act_or_rest p (Some l) = act_of p l
+act_or_rest p None = rest_of p
 
 abbrev pub is_reply : Last → Bool
 is_reply last.Reply = true
@@ -93,32 +97,31 @@ is_reply last.Neither = false
 -- rules 1 to 4, where no message is under way
 unfoldable pub choose_of : Port → Slotted
 choose_of p =
-    cond (continuous p.source && is_reply p.last) (begins_record p)
-    (cond p.waiting.some (act_of p) (rest_of p))
+    cond (continuous p.source && is_reply p.last) (begins_record p) (act_or_rest p p.waiting)
 
 unfoldable pub slot_of : Port → Slotted
 slot_of p =
     cond (valid_port p)
     (cond (ltb p.message.at p.message.len) (send_from p p.message.at) (choose_of p))
-    (record { sent = sent.Refused refusal.State; port = p })
+    (record { sent = Err refusal.State; port = p })
 
 -- ---- a received byte
 
 abbrev pub taken_port : Port → Line → Port
-taken_port p l = record { source = p.source; message = p.message; last = p.last; waiting = record { some = true; line = l } }
+taken_port p l = record { source = p.source; message = p.message; last = p.last; waiting = Some l }
 
 -- where it ends, at CR, the line is emptied: taken where no command waits, else dropped
 unfoldable pub taken_of : Port → Line → Received
 taken_of p l =
-    cond p.waiting.some
-    (record { verdict = Refused refusal.Dropped; port = p; line = blank })
-    (record { verdict = Done; port = taken_port p l; line = blank })
+    cond (is_some p.waiting)
+    (record { verdict = Err refusal.Dropped; port = p; line = blank })
+    (record { verdict = Ok tt; port = taken_port p l; line = blank })
 
 unfoldable pub receive_of : Port → Line → ℕ → Received
 receive_of p l b =
     cond (valid_port p && valid_line l)
-    (cond (ends l b) (taken_of p l) (record { verdict = Done; port = p; line = joined l b }))
-    (record { verdict = Refused refusal.State; port = p; line = l })
+    (cond (ends l b) (taken_of p l) (record { verdict = Ok tt; port = p; line = joined l b }))
+    (record { verdict = Err refusal.State; port = p; line = l })
 
 -- ---- a measurement, a start
 
@@ -132,28 +135,28 @@ measured_port p m = record {
 
 -- what a verdict hands back: the new port, or the old one
 unfoldable pub handed : Verdict → Port → Port → Handed
-handed Done new old = record { verdict = Done; port = new }
-handed (Refused r) new old = record { verdict = Refused r; port = old }
+handed (Ok tt) new old = record { verdict = Ok tt; port = new }
+handed (Err r) new old = record { verdict = Err r; port = old }
 
 unfoldable pub measure_of : Port → Measurement → Handed
 measure_of p m =
-    cond (valid_port p) (handed (measurement_verdict m) (measured_port p m) p) (record { verdict = Refused refusal.State; port = p })
+    cond (valid_port p) (handed (measurement_verdict m) (measured_port p m) p) (record { verdict = Err refusal.State; port = p })
 
 -- unit by the start-up letter: I, B imperial; M, b metric
 unfoldable pub unit_of : ℕ → ℕ
 unit_of l = cond (eqb l 73 || eqb l 66) 73 77
 
-abbrev pub started_with : Settings → Measurement → ℕ → Message → Waiting → Port
-started_with s m unit message waiting = record {
+abbrev pub started_with : Settings → Measurement → ℕ → Message → Port
+started_with s m unit message = record {
   source = record { settings = s; measurement = m; modes = start_modes unit };
   message = message;
   last = last.Neither;
-  waiting = waiting;
+  waiting = None;
 }
 
 -- a start leaves < LF CR to be sent, no command waiting, and the unit is by the start-up letter
 abbrev pub started_port : Settings → Measurement → Port
-started_port s m = started_with s m (unit_of s.fixed.letter) (unsent greeting) nobody
+started_port s m = started_with s m (unit_of s.fixed.lens.letter) (unsent greeting)
 
 -- before the first start: zeros for settings and measurement, which no entry but a start takes
 abbrev pub unstarted : Port
@@ -164,12 +167,12 @@ unstarted =
 
 -- 8 with the lowest item, then 1 with the lowest field; never 16
 unfoldable pub start_verdict : Settings → Measurement → Verdict
-start_verdict s m = cond (eqb (settings_lowest s) 0) (measurement_verdict m) (Refused (refusal.Setting (settings_lowest s)))
+start_verdict s m = cond (eqb (settings_lowest s) 0) (measurement_verdict m) (Err (refusal.Setting (settings_lowest s)))
 
 -- the line that a verdict on a start leaves: an empty one, or the old one
 abbrev pub line_by : Verdict → Line → Line
-line_by Done line = blank
-line_by (Refused r) line = line
+line_by (Ok tt) line = blank
+line_by (Err r) line = line
 
 -- what a verdict on a start hands back: the new port and an empty line, or the old ones
 abbrev pub started_by : Verdict → Port → Port → Line → Started

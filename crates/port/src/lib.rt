@@ -3,14 +3,13 @@
 
 ghost use Rattle.std.specs.Prelude.{◌≡◌, ◌<◌};
 ghost use Rattle.state.specs.State.{message_length};
-ghost use Rattle.port.specs.Port.{send_from, begun_with, begins_record, rest_of, act_of, taken_of, handed, unit_of, started_port, start_verdict, line_by, nobody, is_reply, reply_last};
+ghost use Rattle.port.specs.Port.{send_from, begun_with, begins_record, rest_of, act_of, taken_of, handed, unit_of, started_port, start_verdict, valid_waiting, reply_last};
 ghost use Rattle.port.specs.Clauses.{SentUpTo, Choose, PortUnstarted, PortIsValid, PortStart, PortReceive, PortSlot, PortMeasure};
 
-use fixed::{Fixed, Settings};
+use fixed::Settings;
 use line::Line;
-use record::Figures;
-use refusal::{Refusal, Verdict};
-use state::{Last, Message, Modes, Sending, Source, State, Waiting};
+use refusal::Refusal;
+use state::{Last, Message, Modes, Sending, Source, State};
 use units::Measurement;
 
 #[derive(Clone, Copy)]
@@ -18,26 +17,20 @@ pub struct Port {
     pub source: Source,
     pub message: Message,
     pub last: Last,
-    pub waiting: Waiting,
-}
-
-// What a slot sends.
-#[derive(Clone, Copy)]
-pub enum Sent {
-    Byte(u8),
-    Idle,
-    Refused(Refusal),
+    // the line of the command that waits, as it was taken
+    pub waiting: Option<Line>,
 }
 
 #[derive(Clone, Copy)]
 pub struct Slotted {
-    pub sent: Sent,
+    // the byte that a slot sends; none where it is idle
+    pub sent: Result<Option<u8>, Refusal>,
     pub port: Port,
 }
 
 #[derive(Clone, Copy)]
 pub struct Received {
-    pub verdict: Verdict,
+    pub verdict: Result<(), Refusal>,
     pub port: Port,
     pub line: Line,
 }
@@ -45,14 +38,14 @@ pub struct Received {
 // What a new measurement hands back.
 #[derive(Clone, Copy)]
 pub struct Handed {
-    pub verdict: Verdict,
+    pub verdict: Result<(), Refusal>,
     pub port: Port,
 }
 
 // What a start hands back: the line too, empty where it is accepted.
 #[derive(Clone, Copy)]
 pub struct Started {
-    pub verdict: Verdict,
+    pub verdict: Result<(), Refusal>,
     pub port: Port,
     pub line: Line,
 }
@@ -75,16 +68,14 @@ fn send_from(p: Port, at: usize) -> Slotted
     requires { at < message_length }
     ensures { result ≡ send_from p at }
 {
-    let message = p.message;
-    let byte = message.bytes[at];
     Slotted {
-        sent: Sent::Byte(byte),
+        sent: Ok(Some(p.message.bytes[at])),
         port: sent_up_to(p, at + 1),
     }
 }
 
 // A message starts: its first byte leaves.
-fn begin(source: Source, message: Message, last: Last, waiting: Waiting) -> Slotted
+fn begin(source: Source, message: Message, last: Last, waiting: Option<Line>) -> Slotted
     ensures { result ≡ begun_with source message last waiting }
 {
     let port = Port {
@@ -100,33 +91,20 @@ fn begin(source: Source, message: Message, last: Last, waiting: Waiting) -> Slot
 fn begin_record(p: Port) -> Slotted
     ensures { result ≡ begins_record p }
 {
-    let source = p.source;
-    let waiting = p.waiting;
-    let message = reply::record_message(source);
-    begin(source, message, Last::Record, waiting)
+    let message = reply::record_message(p.source);
+    begin(p.source, message, Last::Record, p.waiting)
 }
 
 // Rules 3 and 4: a record, where continuous sending is on; else the slot is idle.
 fn rest(p: Port) -> Slotted
     ensures { result ≡ rest_of p }
 {
-    let source = p.source;
-    if reply::is_continuous(source) {
+    if reply::is_continuous(p.source) {
         return begin_record(p);
     }
     Slotted {
-        sent: Sent::Idle,
+        sent: Ok(None),
         port: p,
-    }
-}
-
-// The waiting place, free.
-fn nobody_waits() -> Waiting
-    ensures { result ≡ nobody }
-{
-    Waiting {
-        some: false,
-        line: Line::blank(),
     }
 }
 
@@ -140,92 +118,63 @@ fn reply_last(counts: bool) -> Last
     Last::Neither
 }
 
-// Rule 2: the command that waits is acted on, which frees its place; its reply starts, if it has one.
-fn act(p: Port) -> Slotted
-    ensures { result ≡ act_of p }
+// Rule 2: the command that waits is acted on, which frees its place; its reply starts, if it has one. (Kept apart: an idle
+// slot need not make room for what it takes.)
+#[inline(never)]
+fn act(p: Port, line: Line) -> Slotted
+    ensures { result ≡ act_of p line }
 {
-    let source = p.source;
-    let waiting = p.waiting;
-    let line = waiting.line;
-    let acted = reply::act(source, line);
-    let after = acted.source;
-    let message = acted.message;
-    if message.len == 0 {
-        let nobody = nobody_waits();
+    let acted = reply::act(p.source, line);
+    if acted.message.len == 0 {
         let mut free = p;
-        free.source = after;
-        free.waiting = nobody;
+        free.source = acted.source;
+        free.waiting = None;
         return rest(free);
     }
-    begin(
-        after,
-        message,
-        reply_last(reply::counts(source, line)),
-        nobody_waits(),
-    )
-}
-
-fn is_reply(last: Last) -> bool
-    ensures { result ≡ is_reply last }
-{
-    match last {
-        Last::Reply => true,
-        Last::Record => false,
-        Last::Neither => false,
-    }
+    let last = reply_last(reply::counts(p.source, line));
+    begin(acted.source, acted.message, last, None)
 }
 
 // Rules 1 to 4, where no message is under way: what a slot then does. Whoever calls it has tested with 16.
 pub fn choose(p: Port) -> Slotted
     ensures { Choose p result }
 {
-    let source = p.source;
-    let last = p.last;
-    if reply::is_continuous(source) & is_reply(last) {
+    if reply::is_continuous(p.source) && p.last == Last::Reply {
         return begin_record(p);
     }
-    let waiting = p.waiting;
-    if waiting.some {
-        return act(p);
+    match p.waiting {
+        Some(line) => act(p, line),
+        None => rest(p),
     }
-    rest(p)
 }
 
 // A carriage return: the line is taken where no command waits, else dropped.
 fn taken(p: Port, line: Line) -> Received
     ensures { result ≡ taken_of p line }
 {
-    let waiting = p.waiting;
-    if waiting.some {
+    if p.waiting.is_some() {
         return Received {
-            verdict: Verdict::Refused(Refusal::Dropped),
+            verdict: Err(Refusal::Dropped),
             port: p,
             line: Line::blank(),
         };
     }
-    let waits = Waiting { some: true, line };
     let mut after = p;
-    after.waiting = waits;
+    after.waiting = Some(line);
     Received {
-        verdict: Verdict::Done,
+        verdict: Ok(()),
         port: after,
         line: Line::blank(),
     }
 }
 
 // What a verdict hands back: the new port, or the old one.
-fn handed_by(verdict: Verdict, new: Port, old: Port) -> Handed
+fn handed_by(verdict: Result<(), Refusal>, new: Port, old: Port) -> Handed
     ensures { result ≡ handed verdict new old }
 {
-    match verdict {
-        Verdict::Done => Handed {
-            verdict: Verdict::Done,
-            port: new,
-        },
-        Verdict::Refused(r) => Handed {
-            verdict: Verdict::Refused(r),
-            port: old,
-        },
+    Handed {
+        verdict,
+        port: if verdict.is_ok() { new } else { old },
     }
 }
 
@@ -240,12 +189,11 @@ fn unit_of(letter: u8) -> u8
 }
 
 // What is wrong with a start: 8 with the lowest item, then 1 with the lowest field.
-fn check_start(settings: Settings, measurement: Measurement) -> Verdict
+fn check_start(settings: Settings, measurement: Measurement) -> Result<(), Refusal>
     ensures { result ≡ start_verdict settings measurement }
 {
-    let lowest = fixed::lowest_setting(settings);
-    if lowest != 0 {
-        return Verdict::Refused(Refusal::Setting(lowest));
+    if let Some(lowest) = fixed::lowest_setting(settings) {
+        return Err(Refusal::Setting(lowest));
     }
     units::check_measurement(measurement)
 }
@@ -254,14 +202,13 @@ fn check_start(settings: Settings, measurement: Measurement) -> Verdict
 fn started_with(settings: Settings, measurement: Measurement) -> Port
     ensures { result ≡ started_port settings measurement }
 {
-    let fixed = settings.fixed;
     let modes = Modes {
         state: State::Ready,
         sending: Sending::Off,
         checksum: false,
         inhibit: false,
         film: 0,
-        unit: unit_of(fixed.letter),
+        unit: unit_of(settings.fixed.lens.letter),
         rate: 6,
         next_rate: 6,
     };
@@ -274,17 +221,17 @@ fn started_with(settings: Settings, measurement: Measurement) -> Port
         source,
         message: messages::letter_message(b'<', false),
         last: Last::Neither,
-        waiting: nobody_waits(),
+        waiting: None,
     }
 }
 
-// The line that a verdict on a start leaves: an empty one, or the old one.
-fn line_by(verdict: Verdict, line: Line) -> Line
-    ensures { result ≡ line_by verdict line }
+// Whether the line that waits, if one does, is one of ours.
+fn may_wait(waiting: Option<Line>) -> bool
+    ensures { result ≡ valid_waiting waiting }
 {
-    match verdict {
-        Verdict::Done => Line::blank(),
-        Verdict::Refused(_) => line,
+    match waiting {
+        Some(line) => line.is_valid(),
+        None => true,
     }
 }
 
@@ -293,38 +240,15 @@ impl Port {
     pub fn unstarted() -> Port
         ensures { PortUnstarted result }
     {
-        let fixed = Fixed {
-            serial: [0; 9],
-            owner: [0; 31],
-            kind: 0,
-            focal: 0,
-            maximum: 0,
-            letter: 0,
-            transmission: 0,
-            version: [0; 4],
-        };
         let settings = Settings {
-            fixed,
+            fixed: fixed::no_fixed(),
             maker: [0; 15],
             type_name: [0; 30],
             blur: [0; 32],
         };
-        let figures = Figures {
-            focus: 0,
-            aperture: 0,
-            stop: 0,
-            tenth: 0,
-            focal: 0,
-            hyperfocal: 0,
-            near: 0,
-            far: 0,
-            view: 0,
-            pupil: 0,
-            zoom: 0,
-        };
         let measurement = Measurement {
             unit: 0,
-            figures,
+            figures: record::no_record().figures,
             temperature: 0,
         };
         started_with(settings, measurement)
@@ -334,28 +258,28 @@ impl Port {
     pub fn is_valid(self) -> bool
         ensures { PortIsValid self result }
     {
-        let message = self.message;
-        let waiting = self.waiting;
-        let line = waiting.line;
-        if !(state::valid_message(message) & line.is_valid()) {
+        // Both tests at once: a chain of && costs every slot 38 instructions more.
+        if !(state::valid_message(self.message) & may_wait(self.waiting)) {
             return false;
         }
-        let source = self.source;
-        state::valid_source(source)
+        state::valid_source(self.source)
     }
 
     // A start: 8 with the lowest item, then 1 with the lowest field; refused, it hands the old port and line back.
     pub fn start(old: Port, line: Line, settings: Settings, measurement: Measurement) -> Started
         ensures { PortStart old line settings measurement result }
     {
-        let verdict = check_start(settings, measurement);
-        let handed = handed_by(verdict, started_with(settings, measurement), old);
-        let answer = handed.verdict;
-        let port = handed.port;
-        Started {
-            verdict: answer,
-            port,
-            line: line_by(verdict, line),
+        match check_start(settings, measurement) {
+            Ok(()) => Started {
+                verdict: Ok(()),
+                port: started_with(settings, measurement),
+                line: Line::blank(),
+            },
+            Err(r) => Started {
+                verdict: Err(r),
+                port: old,
+                line,
+            },
         }
     }
 
@@ -363,9 +287,10 @@ impl Port {
     pub fn receive(self, line: Line, byte: u8) -> Received
         ensures { PortReceive self line byte result }
     {
+        // Both tests at once: && costs every byte 14 instructions more.
         if !(self.is_valid() & line.is_valid()) {
             return Received {
-                verdict: Verdict::Refused(Refusal::State),
+                verdict: Err(Refusal::State),
                 port: self,
                 line,
             };
@@ -374,7 +299,7 @@ impl Port {
             return taken(self, line);
         }
         Received {
-            verdict: Verdict::Done,
+            verdict: Ok(()),
             port: self,
             line: line.joined(byte),
         }
@@ -386,7 +311,7 @@ impl Port {
     {
         if !self.is_valid() {
             return Slotted {
-                sent: Sent::Refused(Refusal::State),
+                sent: Err(Refusal::State),
                 port: self,
             };
         }
@@ -406,14 +331,12 @@ impl Port {
     {
         if !self.is_valid() {
             return Handed {
-                verdict: Verdict::Refused(Refusal::State),
+                verdict: Err(Refusal::State),
                 port: self,
             };
         }
-        let mut source = self.source;
-        source.measurement = measurement;
         let mut after = self;
-        after.source = source;
+        after.source.measurement = measurement;
         handed_by(units::check_measurement(measurement), after, self)
     }
 }

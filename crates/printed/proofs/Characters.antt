@@ -64,7 +64,7 @@ wide_of n =
     (λ y. let k = ltb-true n 100000 y in record { behind = 4; wide = refl; few = omega arith; top = λ t. omega arith; low = λ l. omega arith })
     (λ f. let l₅ = ltb-false n 100000 f in record { behind = 5; wide = refl; few = omega arith; top = λ t. omega arith; low = λ l. omega arith })))))
 
-length_numeral : (n : ℕ) → length (numeral n) ≡ width_of n
+pub length_numeral : (n : ℕ) → length (numeral n) ≡ width_of n
 length_numeral n = length_digits 10 48 (omega arith) (width_of n) n
 
 pub six_at_most : (n : ℕ) → length (numeral n) ≤ 6

@@ -5,15 +5,13 @@ use mathlib.Core.Path.{◌≡◌, refl, sym, ap, ◌∙◌}
 use native.Mathlib.Omega.{arith}
 use borrow.Author.Tests.{le-leb, lt-leb}
 use lib.ListN.{length, length-append}
+use Rattle.std.specs.Prelude.{Err, None, Ok, Option, Some}
 use Rattle.laws.specs.Over.{over}
 use Rattle.laws.proofs.OverLaws.{over_fits, over_short, length_over, onto}
-use Rattle.refusal.specs.Answer.{unless}
+use Rattle.refusal.specs.Answer.{Answer, unless}
 use Rattle.refusal.specs.declared.Refusal.TheVariants.{Room}
 use Rattle.frame.specs.Message.{room_for}
-use Rattle.frame.specs.declared.Wrote.TheVariants as wrote
 use Rattle.port.specs.declared.Port.{Port}
-use Rattle.port.specs.declared.Sent.{Sent}
-use Rattle.port.specs.declared.Sent.TheVariants as sent
 use Rattle.port.specs.declared.Slotted.{Slotted}
 use Rattle.port.specs.Port.{slot_of}
 use Rattle.printed.specs.Printed.{slot_text, separator, slots_text, after_slots, Prints}
@@ -22,7 +20,7 @@ use Rattle.printed.specs.Printed.{slot_text, separator, slots_text, after_slots,
 
 module _ (text out : List ℕ) {n : ℕ} (e : length text ≡ n) where
   -- it does not fit
-  pub prints_short : length out < n → Prints text out (wrote.Refused (Room n)) out
+  pub prints_short : length out < n → Prints text out (Err (Room n)) out
   unfolding room_for unless
   prints_short h = record {
     answers = rw (e, lt-leb n (length out) h);
@@ -30,20 +28,20 @@ module _ (text out : List ℕ) {n : ℕ} (e : length text ≡ n) where
   }
 
   -- it fits, and is written
-  pub prints_whole : {after : List ℕ} → n ≤ length out → after ≡ over out 0 text → Prints text out (wrote.Count n) after
+  pub prints_whole : {after : List ℕ} → n ≤ length out → after ≡ over out 0 text → Prints text out (Ok n) after
   unfolding room_for unless
   prints_whole h p = record { answers = rw (e, le-leb n (length out) h); leaves = p }
 
 -- nothing is printed
-pub prints_none : (out : List ℕ) → Prints [] out (wrote.Count 0) out
+pub prints_none : (out : List ℕ) → Prints [] out (Ok 0) out
 prints_none out = prints_whole [] out refl (omega arith) (sym (over_fits out [] 0 (omega arith)))
 
 -- ---- slots
 
-pub length_slot : (s : Sent) → length (slot_text s) ≡ 2
-length_slot (sent.Byte b) = refl
-length_slot sent.Idle = refl
-length_slot (sent.Refused r) = refl
+pub length_slot : (s : Answer (Option ℕ)) → length (slot_text s) ≡ 2
+length_slot (Ok (Some b)) = refl
+length_slot (Ok None) = refl
+length_slot (Err r) = refl
 
 pub length_slots : (n : ℕ) (p : Port) → length (slots_text n p) ≡ 3 * n
 unfolding slots_text

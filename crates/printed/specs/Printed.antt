@@ -1,17 +1,13 @@
 -- What a replay prints: "the bytes sent in lowercase hex with `--` for an idle slot, separated by spaces"; "`refused` and its number"; "`slots` and the number run".
-use Rattle.std.specs.Prelude.{ℕ, zero, suc, ◌+◌, ◌-◌, ◌/◌, ◌%◌, cond, List, [], ◌∷◌, ◌++◌, ltb, eqb, length}
+use Rattle.std.specs.Prelude.{ℕ, zero, suc, ◌+◌, ◌-◌, ◌/◌, ◌%◌, cond, List, [], ◌∷◌, ◌++◌, ltb, eqb, length, Err, None, Ok, Option, Some}
 use Rattle.laws.specs.Gives.{Gives}
 use Rattle.laws.specs.Over.{over}
+use Rattle.refusal.specs.Answer.{Answer, Verdict}
 use Rattle.refusal.specs.Refusal.{number_of}
 use Rattle.refusal.specs.declared.Refusal.{Refusal}
-use Rattle.refusal.specs.declared.Verdict.{Verdict}
-use Rattle.refusal.specs.declared.Verdict.TheVariants as verdict
 use Rattle.digits.specs.Digits.{decimal}
-use Rattle.frame.specs.Message.{room_for, wrote_of}
-use Rattle.frame.specs.declared.Wrote.{Wrote}
+use Rattle.frame.specs.Message.{room_for}
 use Rattle.port.specs.declared.Port.{Port}
-use Rattle.port.specs.declared.Sent.{Sent}
-use Rattle.port.specs.declared.Sent.TheVariants as sent
 use Rattle.port.specs.Port.{slot_of}
 
 abbrev pub LF : ℕ
@@ -22,10 +18,10 @@ unfoldable pub hex_digit : ℕ → ℕ
 hex_digit n = cond (ltb n 10) (48 + n) (97 + (n - 10))
 
 -- a slot: its byte in hex, or -- (no slot of a run is refused)
-abbrev pub slot_text : Sent → List ℕ
-slot_text (sent.Byte b) = hex_digit (b / 16) ∷ hex_digit (b % 16) ∷ []
-slot_text sent.Idle = 45 ∷ 45 ∷ []
-slot_text (sent.Refused r) = 45 ∷ 45 ∷ []
+abbrev pub slot_text : Answer (Option ℕ) → List ℕ
+slot_text (Ok (Some b)) = hex_digit (b / 16) ∷ hex_digit (b % 16) ∷ []
+slot_text (Ok None) = 45 ∷ 45 ∷ []
+slot_text (Err r) = 45 ∷ 45 ∷ []
 
 -- behind a slot with so many to come: a space, or the line's end behind the last
 unfoldable pub separator : ℕ → ℕ
@@ -63,12 +59,12 @@ slots_line n = labelled (0x73 ∷ 0x6C ∷ 0x6F ∷ 0x74 ∷ 0x73 ∷ 0x20 ∷ [
 
 -- an event that is done prints nothing
 abbrev pub verdict_text : Verdict → List ℕ
-verdict_text verdict.Done = []
-verdict_text (verdict.Refused r) = refused_text r
+verdict_text (Ok tt) = []
+verdict_text (Err r) = refused_text r
 
 -- a text goes to the start of lent memory: 2 with its length where that is shorter, and nothing is written
-abbrev pub printed_in : List ℕ → List ℕ → Wrote
-printed_in text out = wrote_of (room_for (length text) (length out))
+abbrev pub printed_in : List ℕ → List ℕ → Answer ℕ
+printed_in text out = room_for (length text) (length out)
 
-abbrev pub Prints : List ℕ → List ℕ → Wrote → List ℕ → Type 0
+abbrev pub Prints : List ℕ → List ℕ → Answer ℕ → List ℕ → Type 0
 Prints text out r after = Gives (printed_in text out) (over out 0 text) r after

@@ -1,11 +1,10 @@
 -- What a replay prints, character by character: statements only.
-use Rattle.std.specs.Prelude.{ℕ, suc, ◌*◌, ◌/◌, ◌%◌, ◌^◌, ◌≤◌, ◌<◌, true, [], ◌∷◌, ◌++◌, ◌⊎◌, ◌≢◌, ◌≡◌, length, get_or}
+use Rattle.std.specs.Prelude.{ℕ, suc, ◌*◌, ◌/◌, ◌%◌, ◌^◌, ◌≤◌, ◌<◌, true, [], ◌∷◌, ◌++◌, ◌⊎◌, ◌≢◌, ◌≡◌, length, get_or, None, Ok, Some}
 use Rattle.refusal.specs.Refusal.{number_of}
 use Rattle.refusal.specs.declared.Refusal.{Refusal}
 use Rattle.refusal.specs.declared.Refusal.TheVariants as refusal
 use Rattle.digits.specs.Digits.{value, are_digits}
 use Rattle.port.specs.declared.Port.{Port}
-use Rattle.port.specs.declared.Sent.TheVariants as sent
 use Rattle.port.specs.Port.{slot_of}
 use Rattle.capture.specs.Numbers.{hex_value}
 use Rattle.printed.specs.Printed.{hex_digit, slot_text, slots_text, numeral, refused_text, slots_line}
@@ -13,10 +12,10 @@ use Rattle.printed.specs.Printed.{hex_digit, slot_text, slots_text, numeral, ref
 pub record Characters : Type 0 where
   -- "lowercase hex": 0..9 or a..f, and it reads back
   pub hex_digit_lem : (n : ℕ) → n < 16 → ((48 ≤ hex_digit n) × (hex_digit n ≤ 57)) ⊎ ((97 ≤ hex_digit n) × (hex_digit n ≤ 102))
-  pub hex_back : (n : ℕ) → n < 16 → hex_value (hex_digit n) ≡ n
+  pub hex_back : (n : ℕ) → n < 16 → hex_value (hex_digit n) ≡ Some n
   -- the high half first, "`--` for an idle slot"
-  pub byte : (b : ℕ) → slot_text (sent.Byte b) ≡ hex_digit (b / 16) ∷ hex_digit (b % 16) ∷ []
-  pub idle : slot_text sent.Idle ≡ 45 ∷ 45 ∷ []
+  pub byte : (b : ℕ) → slot_text (Ok (Some b)) ≡ hex_digit (b / 16) ∷ hex_digit (b % 16) ∷ []
+  pub idle : slot_text (Ok None) ≡ 45 ∷ 45 ∷ []
   -- a number is its decimal digits, with no zero before them
   pub digits : (n : ℕ) → n < 10 ^ 6 → (are_digits 10 48 (numeral n) ≡ true) × (value 10 48 (numeral n) ≡ n)
   pub no_zero : (n : ℕ) → n < 10 ^ 6 → 10 ≤ n → get_or (numeral n) 0 0 ≢ 48

@@ -10,18 +10,16 @@ use lib.ListN.{length}
 use lib.Arith.{lt_of_le-ne}
 use lib.Dec.{leb, eqb}
 use lib.IntN.{ℤ, pos, negsuc}
+use Rattle.std.specs.Prelude.{None, Option, Some}
 use Rattle.laws.specs.Member.{◌∈◌}
 use Rattle.laws.proofs.MemberLaws.{the_only}
 use Rattle.laws.proofs.Tests.{told, cond_yes, cond_no, never}
 use Rattle.sign.specs.Sign.{size, below0, signed_of}
 use Rattle.digits.specs.Digits.{digits, read_decimal, read_groups}
-use Rattle.digits.specs.declared.Field.{Field}
-use Rattle.digits.specs.declared.Field.TheVariants.{Value, Wrong}
 use Rattle.codec.specs.Codec.{Got, got, wrong, Codec, spellings, passed, failing, first, both, chained, field_says, number, letter, ◌⊗◌}
 use Rattle.codec.proofs.Exact.{Exact, Codes, holds, fine, first_zero, zero_first, passed_is}
 use Rattle.codec.proofs.Blames.{Alone, number_alone, letter_alone, tagged_alone, ⊗_alone, through_alone}
 use Rattle.pupil.specs.Pupil.{pupil_ok, pupil_by, zero_too, sign_byte, is_sign, pupil_text, pupil_code, pupil_packed, plus_text, minus_text, plus_packed, minus_packed, signed_field, signed_in, read_pupil_text, code_in, read_pupil_packed, pupil_says}
-use Rattle.pupil.specs.declared.Signed.TheVariants as signed
 
 -- ---- a sign and a size
 
@@ -209,23 +207,23 @@ field_says_lem : (below : Bool) (n : ℕ) → pupil_says (signed_field below n) 
 unfolding pupil_says signed_field passed
 field_says_lem below n = told (leb n 999) (λ y. rw y) (λ m. rw m)
 
-code_says : (f : Field) → pupil_says (code_in f) ≡ chained read_code (field_says 10 f)
+code_says : (f : Option ℕ) → pupil_says (code_in f) ≡ chained read_code (field_says 10 f)
 unfolding field_says chained pupil_says
-code_says (Value k) = field_says_lem (eqb (k / 2048) 1) (k % 2048)
-code_says Wrong = refl
+code_says (Some k) = field_says_lem (eqb (k / 2048) 1) (k % 2048)
+code_says None = refl
 
 pub packed_read : (s : List ℕ) → length s ≡ 2 → pupil_says (read_pupil_packed s) ≡ pupil_packed.parse s
 unfolding read_pupil_packed pupil_packed
 packed_read s l = rw (eq-eqb _ _ l) (code_says (read_groups 4095 s))
 
 -- the sign is read: what is left is its size
-signed_by_lem : (x : ℕ) (f : Field) → chained read_signed (both (got x) (field_says 10 f)) ≡ pupil_says (signed_in (eqb x 45) f)
+signed_by_lem : (x : ℕ) (f : Option ℕ) → chained read_signed (both (got x) (field_says 10 f)) ≡ pupil_says (signed_in (eqb x 45) f)
 unfolding both chained field_says pupil_says
-signed_by_lem x (Value n) = sym (field_says_lem (eqb x 45) n)
-signed_by_lem x Wrong = refl
+signed_by_lem x (Some n) = sym (field_says_lem (eqb x 45) n)
+signed_by_lem x None = refl
 
-five : (a x : ℕ) (f : Field) →
-    pupil_says (cond (eqb a 69 && is_sign x) (signed_in (eqb x 45) f) signed.Wrong)
+five : (a x : ℕ) (f : Option ℕ) →
+    pupil_says (cond (eqb a 69 && is_sign x) (signed_in (eqb x 45) f) None)
     ≡ cond (eqb a 69) (chained read_signed (both (passed (is_sign x) 10 x) (field_says 10 f))) (wrong 10)
 unfolding passed both chained pupil_says
 five a x f =

@@ -1,13 +1,9 @@
 -- The entrance pupil: field 10, -999..999. Zero is written with plus, in both forms; other makers' minus zero is read
 -- as zero ([5]).
-use Rattle.std.specs.Prelude.{ℕ, ◌+◌, ◌/◌, ◌%◌, List, [], ◌∷◌, Bool, ◌&&◌, ◌||◌, cond, length, take, drop, get_or, leb, eqb, ℤ}
+use Rattle.std.specs.Prelude.{ℕ, ◌+◌, ◌/◌, ◌%◌, List, [], ◌∷◌, Bool, ◌&&◌, ◌||◌, cond, length, take, drop, get_or, leb, eqb, ℤ, None, Option, Some}
 use Rattle.sign.specs.Sign.{size, below0, signed_of}
 use Rattle.digits.specs.Digits.{read_decimal, read_groups}
-use Rattle.digits.specs.declared.Field.{Field}
-use Rattle.digits.specs.declared.Field.TheVariants.{Value, Wrong}
 use Rattle.codec.specs.Codec.{Got, got, wrong, Codec, passed, number, letter, tagged, ◌⊗◌, through}
-use Rattle.pupil.specs.declared.Signed.{Signed}
-use Rattle.pupil.specs.declared.Signed.TheVariants as signed
 
 abbrev pub pupil_ok : ℤ → Bool
 pupil_ok z = leb (size z) 999
@@ -56,31 +52,31 @@ minus_packed = 0x60 ∷ 0x40 ∷ []
 
 -- ---- what the code's readers answer
 
-unfoldable pub signed_field : Bool → ℕ → Signed
-signed_field below n = cond (leb n 999) (signed.Number (signed_of below n)) signed.Wrong
+unfoldable pub signed_field : Bool → ℕ → Option ℤ
+signed_field below n = cond (leb n 999) (Some (signed_of below n)) None
 
-abbrev pub signed_in : Bool → Field → Signed
-signed_in below (Value n) = signed_field below n
-signed_in below Wrong = signed.Wrong
+abbrev pub signed_in : Bool → Option ℕ → Option ℤ
+signed_in below (Some n) = signed_field below n
+signed_in below None = None
 
 -- E and a sign
 abbrev pub is_marked : ℕ → ℕ → Bool
 is_marked a x = eqb a 69 && is_sign x
 
-unfoldable pub read_pupil_text : List ℕ → Signed
+unfoldable pub read_pupil_text : List ℕ → Option ℤ
 read_pupil_text s =
     cond (eqb (length s) 5)
-    (cond (is_marked (get_or s 0 0) (get_or s 1 0)) (signed_in (eqb (get_or s 1 0) 45) (read_decimal 999 (take 3 (drop 2 s)))) signed.Wrong)
-    signed.Wrong
+    (cond (is_marked (get_or s 0 0) (get_or s 1 0)) (signed_in (eqb (get_or s 1 0) 45) (read_decimal 999 (take 3 (drop 2 s)))) None)
+    None
 
-abbrev pub code_in : Field → Signed
-code_in (Value k) = signed_field (eqb (k / 2048) 1) (k % 2048)
-code_in Wrong = signed.Wrong
+abbrev pub code_in : Option ℕ → Option ℤ
+code_in (Some k) = signed_field (eqb (k / 2048) 1) (k % 2048)
+code_in None = None
 
-unfoldable pub read_pupil_packed : List ℕ → Signed
-read_pupil_packed s = cond (eqb (length s) 2) (code_in (read_groups 4095 s)) signed.Wrong
+unfoldable pub read_pupil_packed : List ℕ → Option ℤ
+read_pupil_packed s = cond (eqb (length s) 2) (code_in (read_groups 4095 s)) None
 
 -- what an answer says of field 10
-unfoldable pub pupil_says : Signed → Got ℤ
-pupil_says (signed.Number z) = got z
-pupil_says signed.Wrong = wrong 10
+unfoldable pub pupil_says : Option ℤ → Got ℤ
+pupil_says (Some z) = got z
+pupil_says None = wrong 10

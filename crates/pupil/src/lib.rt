@@ -6,23 +6,14 @@ ghost use Rattle.std.specs.Prelude.{◌≡◌};
 ghost use Rattle.pupil.specs.Pupil.{sign_byte, is_marked, signed_field, pupil_code};
 ghost use Rattle.pupil.specs.Clauses.{PutPupilText, PutPupilPacked, ReadPupilText, ReadPupilPacked};
 
-use digits::Field;
-
-// What the bytes of the field hold: a number, or none.
-#[derive(Clone, Copy)]
-pub enum Signed {
-    Number(i32),
-    Wrong,
-}
-
 // The number with this sign and size, where it is in range.
-fn signed_field(below: bool, n: u32) -> Signed
+fn signed_field(below: bool, n: u32) -> Option<i32>
     ensures { result ≡ signed_field below n }
 {
     if 999 < n {
-        return Signed::Wrong;
+        return None;
     }
-    Signed::Number(sign::signed_of(below, n as u16))
+    Some(sign::signed_of(below, n as u16))
 }
 
 // The sign as text.
@@ -68,30 +59,26 @@ fn is_marked(tag: u8, sign: u8) -> bool
 }
 
 // Reads E, the sign and three digits.
-pub fn read_pupil_text(s: &[u8]) -> Signed
+pub fn read_pupil_text(s: &[u8]) -> Option<i32>
     ensures { ReadPupilText s.now result }
 {
     if s.len() != 5 {
-        return Signed::Wrong;
+        return None;
     }
     if !is_marked(s[0], s[1]) {
-        return Signed::Wrong;
+        return None;
     }
-    let Field::Value(n) = digits::read_decimal(&s[2..5], 999) else {
-        return Signed::Wrong;
-    };
+    let n = digits::read_decimal(&s[2..5], 999)?;
     signed_field(s[1] == b'-', n)
 }
 
 // Reads the two groups.
-pub fn read_pupil_packed(s: &[u8]) -> Signed
+pub fn read_pupil_packed(s: &[u8]) -> Option<i32>
     ensures { ReadPupilPacked s.now result }
 {
     if s.len() != 2 {
-        return Signed::Wrong;
+        return None;
     }
-    let Field::Value(k) = digits::read_groups(s, 4095) else {
-        return Signed::Wrong;
-    };
+    let k = digits::read_groups(s, 4095)?;
     signed_field(k / 2048 == 1, k % 2048)
 }

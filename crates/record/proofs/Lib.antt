@@ -1,5 +1,4 @@
 pub mod Exact
 pub mod PupilAt
 pub mod Ranges
-pub mod Told
 pub mod Unique

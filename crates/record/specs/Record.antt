@@ -1,13 +1,10 @@
 -- What may be sent: document 01's table of ranges, one rule for both forms. The answer is the lowest field out of range, 0 where there is none.
 use Rattle.std.specs.Prelude.{ℕ, leb, pos, replicate}
-use Rattle.refusal.specs.Answer.{Answer, accepted, refused}
-use Rattle.refusal.specs.declared.Verdict.TheVariants.{Done, Refused}
 use Rattle.sign.specs.Sign.{size}
 use Rattle.codec.specs.Codec.{failing, first, text_ok}
 use Rattle.stop.specs.Stop.{stop_ok}
 use Rattle.record.specs.declared.Figures.{Figures}
 use Rattle.record.specs.declared.Record.{Record}
-use Rattle.record.specs.declared.RecordRead.{RecordRead}
 
 -- the highest distance, and how far the pupil reaches from zero
 abbrev pub top_distance : ℕ
@@ -46,7 +43,7 @@ figures_lowest top most f = first (front_lowest top f) (first (middle_lowest top
 unfoldable pub record_lowest : Record → ℕ
 record_lowest r = first (figures_lowest top_distance top_pupil r.figures) (failing (text_ok 9 r.serial) 12)
 
--- ---- what a reader of a record answers: the record, or a refusal beside a record of zeros
+-- ---- zeros
 
 abbrev pub no_figures : Figures
 no_figures = record {
@@ -65,7 +62,3 @@ no_figures = record {
 
 abbrev pub no_record : Record
 no_record = record { figures = no_figures; serial = replicate 9 0 }
-
-abbrev pub record_read : Answer Record → RecordRead
-record_read (accepted r) = record { verdict = Done; contents = r }
-record_read (refused x) = record { verdict = Refused x; contents = no_record }

@@ -3,10 +3,9 @@
 #![tactic(auto)]
 
 ghost use Rattle.std.specs.Prelude.{◌≡◌};
+ghost use Rattle.codec.specs.Codec.{lowest_named};
 ghost use Rattle.record.specs.Record.{front_lowest, middle_lowest, back_lowest};
-ghost use Rattle.record.specs.Clauses.{AcceptedRecord, NoRecord, RefusedRecord, LowestFigure, LowestField};
-
-use refusal::{Refusal, Verdict};
+ghost use Rattle.record.specs.Clauses.{NoRecord, LowestFigure, LowestField};
 
 // How many bytes a record's contents take: as text, and packed.
 pub const TEXT_LENGTH: usize = 74;
@@ -50,23 +49,6 @@ pub struct Record {
     pub serial: [u8; 9],
 }
 
-// What a reader of a record answers. On a refusal the record is zero.
-#[derive(Clone, Copy)]
-pub struct RecordRead {
-    pub verdict: Verdict,
-    pub contents: Record,
-}
-
-// A record read.
-pub fn accepted_record(r: Record) -> RecordRead
-    ensures { AcceptedRecord r result }
-{
-    RecordRead {
-        verdict: Verdict::Done,
-        contents: r,
-    }
-}
-
 // The record of zeros.
 pub fn no_record() -> Record
     ensures { NoRecord result }
@@ -90,98 +72,85 @@ pub fn no_record() -> Record
     }
 }
 
-// A message refused.
-pub fn refused_record(r: Refusal) -> RecordRead
-    ensures { RefusedRecord r result }
-{
-    RecordRead {
-        verdict: Verdict::Refused(r),
-        contents: no_record(),
-    }
-}
-
-// The lowest of fields 1 to 4 that is out of range, or 0; distances reach as far as top.
-fn lowest_front(f: Figures, top: u32) -> u32
-    ensures { result ≡ front_lowest top f }
+// The lowest of fields 1 to 4 that is out of range; distances reach as far as top.
+fn lowest_front(f: Figures, top: u32) -> Option<u32>
+    ensures { result ≡ lowest_named (front_lowest top f) }
 {
     if top < f.focus {
-        return 1;
+        return Some(1);
     }
     if 4095 < f.aperture {
-        return 2;
+        return Some(2);
     }
     if !stop::stop_ok(f.stop) {
-        return 3;
+        return Some(3);
     }
     if 9 < f.tenth {
-        return 4;
+        return Some(4);
     }
-    0
+    None
 }
 
-// The lowest of fields 5 to 8, or 0.
-fn lowest_middle(f: Figures, top: u32) -> u32
-    ensures { result ≡ middle_lowest top f }
+// The lowest of fields 5 to 8.
+fn lowest_middle(f: Figures, top: u32) -> Option<u32>
+    ensures { result ≡ lowest_named (middle_lowest top f) }
 {
     if 1023 < f.focal {
-        return 5;
+        return Some(5);
     }
     if top < f.hyperfocal {
-        return 6;
+        return Some(6);
     }
     if top < f.near {
-        return 7;
+        return Some(7);
     }
     if top < f.far {
-        return 8;
+        return Some(8);
     }
-    0
+    None
 }
 
-// The lowest of fields 9 to 11, or 0; the pupil reaches as far as most from zero.
-fn lowest_back(f: Figures, most: u32) -> u32
-    ensures { result ≡ back_lowest most f }
+// The lowest of fields 9 to 11; the pupil reaches as far as most from zero.
+fn lowest_back(f: Figures, most: u32) -> Option<u32>
+    ensures { result ≡ lowest_named (back_lowest most f) }
 {
     if 4095 < f.view {
-        return 9;
+        return Some(9);
     }
-    let e = f.pupil;
-    if most < sign::size_of(e) {
-        return 10;
+    if most < sign::size_of(f.pupil) {
+        return Some(10);
     }
     if 1000 < f.zoom {
-        return 11;
+        return Some(11);
     }
-    0
+    None
 }
 
-// The lowest field out of range, or 0: distances reach as far as top, the pupil as far as most.
-pub fn lowest_figure(f: Figures, top: u32, most: u32) -> u32
+// The lowest field out of range: distances reach as far as top, the pupil as far as most.
+pub fn lowest_figure(f: Figures, top: u32, most: u32) -> Option<u32>
     ensures { LowestFigure f top most result }
 {
     let front = lowest_front(f, top);
-    if front != 0 {
+    if front.is_some() {
         return front;
     }
     let middle = lowest_middle(f, top);
-    if middle != 0 {
+    if middle.is_some() {
         return middle;
     }
     lowest_back(f, most)
 }
 
-// The lowest field out of range, or 0 where the record may be sent.
-pub fn lowest_field(r: Record) -> u32
+// The lowest field out of range; none where the record may be sent.
+pub fn lowest_field(r: Record) -> Option<u32>
     ensures { LowestField r result }
 {
-    let figures = r.figures;
-    let lowest = lowest_figure(figures, 9999999, 999);
-    if lowest != 0 {
+    let lowest = lowest_figure(r.figures, 9999999, 999);
+    if lowest.is_some() {
         return lowest;
     }
-    let serial = r.serial;
-    if !codec::is_text(&serial) {
-        return 12;
+    if !codec::is_text(&r.serial) {
+        return Some(12);
     }
-    0
+    None
 }

@@ -8,17 +8,16 @@ use native.Mathlib.Omega.{arith}
 use borrow.Author.Tests.{ltb-true, ltb-false, lt-leb, leb-false}
 use lib.Dec.{ltb}
 use lib.ListN.{length, drop}
+use Rattle.std.specs.Prelude.{Some, Err, Ok}
 use Rattle.laws.proofs.OverLaws.{over_fits}
 use Rattle.laws.proofs.Tests.{told, never}
 use Rattle.refusal.specs.Answer.{Answer}
 use Rattle.refusal.specs.declared.Refusal.{Refusal}
 use Rattle.refusal.specs.declared.Refusal.TheVariants.{Room, State}
-use Rattle.refusal.specs.declared.Verdict.TheVariants as verdict
-use Rattle.frame.specs.declared.Wrote.TheVariants.{Count, Refused}
 use Rattle.cutter.specs.Cutter.{Said, invalid, nothing, ended, cut_of, whole_left}
 use Rattle.cutter.specs.declared.Cutter.{Cutter}
 use Rattle.cutter.proofs.Promises as cutter
-use Rattle.recorder.specs.Recorder.{valid_recorder, asking, hands_out, send_of, reading_of, told_as, take_by, take_of}
+use Rattle.recorder.specs.Recorder.{valid_recorder, asking, hands_out, send_of, reading_of, take_by, take_of, has_made, is_opening, verdict_in}
 use Rattle.recorder.specs.Promises.{Promised}
 use Rattle.recorder.specs.declared.Setup.{Setup}
 use Rattle.recorder.specs.declared.Recorder.{Recorder}
@@ -30,48 +29,64 @@ use Rattle.recorder.proofs.Sixteen.{cut_not, taken_16}
 
 -- ---- taking
 
-opening_read : (s : Setup) (o : Bool) (m : Answer (List ℕ)) → (told_as (reading_of s o m)).opening ≡ not o
-unfolding reading_of told_as
+opening_read : (s : Setup) (o : Bool) (m : Answer (List ℕ)) → is_opening (Ok (Some (reading_of s o m))) ≡ not o
+unfolding reading_of is_opening
 opening_read s true m = refl
 opening_read s false m = refl
 
-opening_by : (r : Recorder) (x : Said) (n : ℕ) (c : Cutter) → (take_by r x n c).made.opening ≡ ((take_by r x n c).ended && not r.opened)
-unfolding take_by
+opening_by : (r : Recorder) (x : Said) (n : ℕ) (c : Cutter) → is_opening (take_by r x n c).made ≡ (has_made (take_by r x n c).made && not r.opened)
+unfolding take_by is_opening has_made
 opening_by r invalid n c = refl
 opening_by r nothing n c = refl
 opening_by r (ended m) n c = opening_read r.setup r.opened m
 
-opening_told : (r : Recorder) (p : List ℕ) → (take_of r p).made.opening ≡ ((take_of r p).ended && not r.opened)
+opening_told : (r : Recorder) (p : List ℕ) → is_opening (take_of r p).made ≡ (has_made (take_of r p).made && not r.opened)
 unfolding take_of
 opening_told r p = opening_by r (cut_of r.cutter p).said _ _
 
+refused_by : (r : Recorder) (s : Said) (n : ℕ) (c : Cutter) (x : Refusal) → (take_by r s n c).made ≡ Err x → x ≡ State
+unfolding take_by
+refused_by r invalid n c x e = cc
+refused_by r nothing n c x e = never (cc)
+refused_by r (ended m) n c x e = never (cc)
+
 module _ (r : Recorder) (p : List ℕ) where
-  said_invalid : (take_of r p).made.verdict ≡ verdict.Refused State → (cut_of r.cutter p).said ≡ invalid
+  said_invalid : verdict_in (take_of r p).made ≡ Err State → (cut_of r.cutter p).said ≡ invalid
   unfolding take_of
   said_invalid e = taken_16 r (cut_of r.cutter p).said _ _ (cut_not r.cutter p) e
 
-  take_16 : ((take_of r p).made.verdict ≡ verdict.Refused State) ↔ (161 < r.cutter.len)
+  invalid_said : (cut_of r.cutter p).said ≡ invalid → (take_of r p).made ≡ Err State
   unfolding take_of take_by
-  take_16 =
-      let t = cut_of r.cutter p in
-      let c = (cutter.promised).each_call.refused r.cutter p in
-      (λ e. c.0 (said_invalid e), λ v. ap (λ (x : Said). (take_by r x t.used t.cutter).made.verdict) (c.1 v))
+  invalid_said i = let t = cut_of r.cutter p in ap (λ (x : Said). (take_by r x t.used t.cutter).made) i
 
-  take_same : (take_of r p).made.verdict ≡ verdict.Refused State → ((take_of r p).recorder ≡ r) × ((take_of r p).used ≡ 0)
+  verdict_16 : (take_of r p).made ≡ Err State → verdict_in (take_of r p).made ≡ Err State
+  unfolding verdict_in
+  verdict_16 e = ap verdict_in e
+
+  take_16 : ((take_of r p).made ≡ Err State) ↔ (161 < r.cutter.len)
+  take_16 =
+      let c = (cutter.promised).each_call.refused r.cutter p in
+      (λ e. c.0 (said_invalid (verdict_16 e)), λ v. invalid_said (c.1 v))
+
+  take_same : (take_of r p).made ≡ Err State → ((take_of r p).recorder ≡ r) × ((take_of r p).used ≡ 0)
   unfolding take_of take_by
   take_same e =
-      let i = said_invalid e in
+      let i = said_invalid (verdict_16 e) in
       let c = (cutter.promised).each_call.refused_same r.cutter p i in
       ((λ j. (take_by r (i j) (c.1 j) (c.0 j)).recorder), take_used r p ∙ c.1)
 
-ended_only : (r : Recorder) (x : Said) (used : ℕ) (c : Cutter) → (take_by r x used c).ended ≡ true → (m : Answer (List ℕ)) × (x ≡ ended m)
-unfolding take_by
+  take_refused : (x : Refusal) → (take_of r p).made ≡ Err x → x ≡ State
+  unfolding take_of
+  take_refused = refused_by r (cut_of r.cutter p).said _ _
+
+ended_only : (r : Recorder) (x : Said) (used : ℕ) (c : Cutter) → has_made (take_by r x used c).made ≡ true → (m : Answer (List ℕ)) × (x ≡ ended m)
+unfolding take_by has_made
 ended_only r invalid used c e = absurd (false≢true e)
 ended_only r nothing used c e = absurd (false≢true e)
 ended_only r (ended m) used c e = (m, refl)
 
-take_ended : (r : Recorder) (p : List ℕ) → ((take_of r p).ended ≡ true) ↔ ((m : Answer (List ℕ)) × ((cut_of r.cutter p).said ≡ ended m))
-unfolding take_of take_by
+take_ended : (r : Recorder) (p : List ℕ) → (has_made (take_of r p).made ≡ true) ↔ ((m : Answer (List ℕ)) × ((cut_of r.cutter p).said ≡ ended m))
+unfolding take_of take_by has_made
 take_ended r p = (ended_only r (cut_of r.cutter p).said _ _, λ q. rw q.1)
 
 -- ---- sending
@@ -86,7 +101,7 @@ module _ (r : Recorder) (out : List ℕ) where
       f
 
   asks : valid_recorder r ≡ true → r.sent ≡ false → 2 ≤ length out →
-      ((send_of r out).wrote ≡ Count 2) × (whole_left (hands_out r) out ≡ 78 ∷ 13 ∷ drop 2 out) × ((send_of r out).recorder.sent ≡ true)
+      ((send_of r out).wrote ≡ Ok 2) × (whole_left (hands_out r) out ≡ 78 ∷ 13 ∷ drop 2 out) × ((send_of r out).recorder.sent ≡ true)
   asks v s h =
       let g = send_asking r out v s h in (
         ap (λ (x : HandedOut). x.wrote) (sym g.answers),
@@ -95,12 +110,12 @@ module _ (r : Recorder) (out : List ℕ) where
       )
 
   asks_once : valid_recorder r ≡ true → r.sent ≡ true →
-      ((send_of r out).wrote ≡ Count 0) × (whole_left (hands_out r) out ≡ out) × ((send_of r out).recorder ≡ r)
+      ((send_of r out).wrote ≡ Ok 0) × (whole_left (hands_out r) out ≡ out) × ((send_of r out).recorder ≡ r)
   asks_once v s =
       let g = send_nothing r out v s in
       (ap (λ (x : HandedOut). x.wrote) (sym g.answers), sym g.leaves, ap (λ (x : HandedOut). x.recorder) (sym g.answers))
 
-  send_16 : ((send_of r out).wrote ≡ Refused State) ↔ (161 < r.cutter.len)
+  send_16 : ((send_of r out).wrote ≡ Err State) ↔ (161 < r.cutter.len)
   send_16 = (
     λ e.
         cases (λ v. leb-false r.cutter.len 161 v)
@@ -110,17 +125,17 @@ module _ (r : Recorder) (out : List ℕ) where
     λ h. ap (λ (x : HandedOut). x.wrote) (sym (send_invalid r out (lt-leb r.cutter.len 161 h)).answers),
   )
 
-  send_2 : (n : ℕ) → ((send_of r out).wrote ≡ Refused (Room n)) ↔ ((valid_recorder r ≡ true) × (r.sent ≡ false) × (length out < 2) × (n ≡ 2))
+  send_2 : (n : ℕ) → ((send_of r out).wrote ≡ Err (Room n)) ↔ ((valid_recorder r ≡ true) × (r.sent ≡ false) × (length out < 2) × (n ≡ 2))
   send_2 n = (
     λ e.
         cases (λ v. let g = (send_invalid r out v).answers in never (cc))
         (λ v s. let g = (send_nothing r out v s).answers in never (cc))
         (λ v s h. let g = (send_short r out v s h).answers in (v, s, h, cc))
         (λ v s h. let g = (send_asking r out v s h).answers in never (cc)),
-    λ h. ap (λ (x : HandedOut). x.wrote) (sym (send_short r out h.0 h.1 h.2).answers) ∙ ap (λ (j : ℕ). Refused (Room j)) (sym h.3),
+    λ h. ap (λ (x : HandedOut). x.wrote) (sym (send_short r out h.0 h.1 h.2).answers) ∙ ap (λ (j : ℕ). Err (Room j)) (sym h.3),
   )
 
-  send_same : (x : Refusal) → (send_of r out).wrote ≡ Refused x → ((send_of r out).recorder ≡ r) × (whole_left (hands_out r) out ≡ out)
+  send_same : (x : Refusal) → (send_of r out).wrote ≡ Err x → ((send_of r out).recorder ≡ r) × (whole_left (hands_out r) out ≡ out)
   send_same x e =
       cases
       (λ v. let g = send_invalid r out v in (ap (λ (y : HandedOut). y.recorder) (sym g.answers), sym g.leaves))
@@ -129,7 +144,7 @@ module _ (r : Recorder) (out : List ℕ) where
       (λ v s h. let g = (send_asking r out v s h).answers in never (cc))
 
 pub promised : Promised
-unfolding told_as take_of take_by
+unfolding verdict_in is_opening take_of take_by
 promised = record {
   of_messages = record {
     first_off = refl;
@@ -140,18 +155,20 @@ promised = record {
     opened = λ s before. opened s;
     waits = λ s ms. waits s;
     opens = λ s before. opens s;
-    told_fixed = λ f. refl;
-    told_no_fixed = λ x. refl;
-    told_record = λ a. refl;
-    told_no_record = λ x. refl;
+    told_fixed = λ f. (refl, refl);
+    told_no_fixed = λ x. (refl, refl);
+    told_record = λ a. (refl, refl);
+    told_no_record = λ x. (refl, refl);
   };
   any_calls = record { readings = readings; left = left; elsewhere = elsewhere; runs = runs };
   each_call = record {
     cuts = λ r p. (take_used r p, take_cutter r p);
     take_16 = take_16;
     take_same = take_same;
+    take_refused = take_refused;
+    told_16 = λ r p e. invalid_said r p (said_invalid r p e);
     opening = opening_told;
-    take_none = λ r p e. (rw e, rw e);
+    take_none = λ r p e. rw e;
     take_ended = take_ended;
     start_asks = λ s. (refl, refl);
     asks = asks;

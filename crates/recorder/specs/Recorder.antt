@@ -1,23 +1,19 @@
 -- The recorder, by value: its settings, what it has to send, and what it makes of a message and of a piece.
-use Rattle.std.specs.Prelude.{ℕ, Bool, true, false, cond, List, [], ◌∷◌, length}
-use Rattle.refusal.specs.Answer.{Answer, accepted, refused, unless, is_accepted}
+use Rattle.std.specs.Prelude.{ℕ, Bool, true, false, cond, List, [], ◌∷◌, length, Option, None, Some, Err, Ok}
+use Rattle.refusal.specs.Answer.{Answer, Verdict, is_accepted, unless}
 use Rattle.refusal.specs.declared.Refusal.TheVariants.{State}
-use Rattle.refusal.specs.declared.Verdict.{Verdict}
-use Rattle.refusal.specs.declared.Verdict.TheVariants.{Done, Refused}
 use Rattle.codec.specs.Codec.{Codec}
-use Rattle.frame.specs.Message.{read_of, wrote_of}
+use Rattle.frame.specs.Message.{read_of}
 use Rattle.record.specs.Forms.{text_form, packed_form}
-use Rattle.record.specs.Record.{no_record, record_read}
 use Rattle.record.specs.declared.Record.{Record}
-use Rattle.fixed.specs.Fixed.{no_fixed, fixed_read}
 use Rattle.fixed.specs.Form.{fixed_form}
-use Rattle.fixed.specs.declared.Fixed.{Fixed}
 use Rattle.cutter.specs.Cutter.{fresh, valid_cutter, held_from, held_message, Said, invalid, nothing, ended, cut_of, then_read, whole_in}
 use Rattle.cutter.specs.declared.Cutter.{Cutter}
 use Rattle.recorder.specs.declared.Setup.{Setup}
 use Rattle.recorder.specs.declared.Recorder.{Recorder}
 use Rattle.recorder.specs.declared.HandedOut.{HandedOut}
-use Rattle.recorder.specs.declared.Made.{Made}
+use Rattle.recorder.specs.declared.Reading.{Reading}
+use Rattle.recorder.specs.declared.Reading.TheVariants.{Fixed as as_fixed, Record as as_record}
 use Rattle.recorder.specs.declared.Recorded.{Recorded}
 
 -- "the settings a recorder starts with say off"
@@ -42,22 +38,17 @@ to_send r = cond r.sent [] asking
 
 -- 16 comes before all
 unfoldable pub hands_out : Recorder → Answer (List ℕ)
-hands_out r = unless (valid_recorder r) State (accepted (to_send r))
+hands_out r = unless (valid_recorder r) State (Ok (to_send r))
 
 -- what was handed out is sent; a refusal changes nothing
 unfoldable pub after_send : Answer ℕ → Recorder → Recorder
-after_send (accepted n) r = record { cutter = r.cutter; setup = r.setup; sent = true; opened = r.opened }
-after_send (refused x) r = r
+after_send (Ok n) r = record { cutter = r.cutter; setup = r.setup; sent = true; opened = r.opened }
+after_send (Err x) r = r
 
 unfoldable pub send_of : Recorder → List ℕ → HandedOut
-send_of r out = record { wrote = wrote_of (whole_in out (hands_out r)); recorder = after_send (whole_in out (hands_out r)) r }
+send_of r out = record { wrote = (whole_in out (hands_out r)); recorder = after_send (whole_in out (hands_out r)) r }
 
 -- ---- a message
-
--- what it reads a message as, and the reader's answer
-pub data Reading : Type 0 where
-  as_fixed : Answer Fixed → Reading
-  as_record : Answer Record → Reading
 
 abbrev pub form_of : Setup → Codec Record
 form_of s = cond s.packed packed_form text_form
@@ -74,14 +65,6 @@ unfoldable pub opens_by : Bool → Reading → Bool
 opens_by opened (as_fixed a) = is_accepted a
 opens_by opened (as_record a) = opened
 
--- as it is handed over
-unfoldable pub told_as : Reading → Made
-told_as (as_fixed a) = record { verdict = (fixed_read a).verdict; opening = true; items = (fixed_read a).contents; fields = no_record }
-told_as (as_record a) = record { verdict = (record_read a).verdict; opening = false; items = no_fixed; fields = (record_read a).contents }
-
-abbrev pub nothing_but : Verdict → Made
-nothing_but v = record { verdict = v; opening = false; items = no_fixed; fields = no_record }
-
 -- ---- a piece
 
 -- the recorder with another cutter
@@ -90,14 +73,38 @@ cut_on r c opened = record { cutter = c; setup = r.setup; sent = r.sent; opened 
 
 -- by what the cutter says: "only 16 leaves the cutter as it was"
 unfoldable pub take_by : Recorder → Said → ℕ → Cutter → Recorded
-take_by r invalid used c = record { made = nothing_but (Refused State); used = used; ended = false; recorder = cut_on r c r.opened }
-take_by r nothing used c = record { made = nothing_but Done; used = used; ended = false; recorder = cut_on r c r.opened }
+take_by r invalid used c = record { made = Err State; used = used; recorder = cut_on r c r.opened }
+take_by r nothing used c = record { made = Ok None; used = used; recorder = cut_on r c r.opened }
 take_by r (ended m) used c =
     let x = reading_of r.setup r.opened m in
-    record { made = told_as x; used = used; ended = true; recorder = cut_on r c (opens_by r.opened x) }
+    record { made = Ok (Some x); used = used; recorder = cut_on r c (opens_by r.opened x) }
 
 unfoldable pub take_of : Recorder → List ℕ → Recorded
 take_of r p = let t = cut_of r.cutter p in take_by r t.said t.used t.cutter
+
+-- ---- what a call says: 16; nothing, for no message ended; or what was read
+
+-- a message ended
+unfoldable pub has_made : Answer (Option Reading) → Bool
+has_made (Err x) = false
+has_made (Ok None) = false
+has_made (Ok (Some x)) = true
+
+-- and was read as fixed data
+unfoldable pub is_opening : Answer (Option Reading) → Bool
+is_opening (Err x) = false
+is_opening (Ok None) = false
+is_opening (Ok (Some (as_fixed a))) = true
+is_opening (Ok (Some (as_record a))) = false
+
+-- done, or the refusal: of the call, or of the message by its reader
+unfoldable pub verdict_in : Answer (Option Reading) → Verdict
+verdict_in (Err x) = Err x
+verdict_in (Ok None) = Ok tt
+verdict_in (Ok (Some (as_fixed (Ok f)))) = Ok tt
+verdict_in (Ok (Some (as_fixed (Err x)))) = Err x
+verdict_in (Ok (Some (as_record (Ok a)))) = Ok tt
+verdict_in (Ok (Some (as_record (Err x)))) = Err x
 
 -- ---- the parts of a call
 
@@ -113,5 +120,5 @@ reading_in r part = reading_of r.setup r.opened (held_message (held_from r.cutte
 unfoldable pub hold_of : Recorder → List ℕ → Recorded
 hold_of r p =
     cond (valid_recorder r)
-    (record { made = nothing_but Done; used = length p; ended = false; recorder = cut_on r (held_from r.cutter p) r.opened })
-    (record { made = nothing_but (Refused State); used = 0; ended = false; recorder = r })
+    (record { made = Ok None; used = length p; recorder = cut_on r (held_from r.cutter p) r.opened })
+    (record { made = Err State; used = 0; recorder = r })

@@ -3,15 +3,13 @@
 #![tactic(auto)]
 
 ghost use Rattle.std.specs.Prelude.{◌≡◌};
-ghost use Rattle.record.specs.Record.{record_read};
-ghost use Rattle.recorder.specs.Recorder.{nothing_but, record_ending, reading_in, told_as, hold_of};
+ghost use Rattle.recorder.specs.Recorder.{record_ending, reading_in, opens_by, hold_of};
 ghost use Rattle.recorder.specs.Clauses.{SetupFirst, RecorderStart, RecorderIsValid, RecorderSend, RecorderTake};
 
 use cutter::Cutter;
 use fixed::Fixed;
-use frame::Wrote;
-use record::{Record, RecordRead};
-use refusal::{Refusal, Verdict};
+use record::Record;
+use refusal::Refusal;
 
 // The settings.
 #[repr(C)]
@@ -38,30 +36,24 @@ pub struct Recorder {
 #[derive(Clone, Copy)]
 pub struct HandedOut {
     // How many bytes; 16, then 2.
-    pub wrote: Wrote,
+    pub wrote: Result<usize, Refusal>,
     pub recorder: Recorder,
 }
 
-// What it makes of a message.
+// What it makes of a message: how it was read, and the reader's answer.
 #[derive(Clone, Copy)]
-pub struct Made {
-    pub verdict: Verdict,
-    // It was read as fixed data, else as a record.
-    pub opening: bool,
-    // The contents; zeros where there are none.
-    pub items: Fixed,
-    pub fields: Record,
+pub enum Reading {
+    Fixed(Result<Fixed, Refusal>),
+    Record(Result<Record, Refusal>),
 }
 
 // What it makes of a piece.
 #[derive(Clone, Copy)]
 pub struct Recorded {
-    // Of the message that ended; where none ended, done with nothing, or 16.
-    pub made: Made,
-    // How many bytes of the piece were taken.
+    // Of the message that ended, where one did; or 16.
+    pub made: Result<Option<Reading>, Refusal>,
+    // How many bytes of the piece were taken; a message ends at the last of them.
     pub used: usize,
-    // A message ended at the last of them.
-    pub ended: bool,
     pub recorder: Recorder,
 }
 
@@ -74,18 +66,6 @@ impl Setup {
             packed: false,
             checksum: false,
         }
-    }
-}
-
-// Nothing but a verdict.
-fn no_message(verdict: Verdict) -> Made
-    ensures { result ≡ nothing_but verdict }
-{
-    Made {
-        verdict,
-        opening: false,
-        items: fixed::no_fixed(),
-        fields: record::no_record(),
     }
 }
 
@@ -104,8 +84,7 @@ impl Recorder {
     pub fn is_valid(self) -> bool
         ensures { RecorderIsValid self result }
     {
-        let cutter = self.cutter;
-        cutter.is_valid()
+        self.cutter.is_valid()
     }
 
     // Puts what it has to send into lent memory: N CR the first time, then nothing.
@@ -114,72 +93,59 @@ impl Recorder {
     {
         if !self.is_valid() {
             return HandedOut {
-                wrote: Wrote::Refused(Refusal::State),
+                wrote: Err(Refusal::State),
                 recorder: self,
             };
         }
         if self.sent {
             return HandedOut {
-                wrote: Wrote::Count(0),
+                wrote: Ok(0),
                 recorder: self,
             };
         }
         if out.len() < 2 {
             return HandedOut {
-                wrote: Wrote::Refused(Refusal::Room(2)),
+                wrote: Err(Refusal::Room(2)),
                 recorder: self,
             };
         }
         lent::put_pair(out, 0, b'N', b'\r');
-        let cutter = self.cutter;
-        let setup = self.setup;
         HandedOut {
-            wrote: Wrote::Count(2),
-            recorder: Recorder {
-                cutter,
-                setup,
-                sent: true,
-                opened: self.opened,
-            },
+            wrote: Ok(2),
+            recorder: Recorder { sent: true, ..self },
         }
     }
 
     // Reads the message that ends with this part as a record.
-    fn read_record(self, part: &[u8]) -> RecordRead
-        ensures { result ≡ record_read (record_ending self part.now) }
+    fn read_record(self, part: &[u8]) -> Result<Record, Refusal>
+        ensures { result ≡ record_ending self part.now }
     {
-        let cutter = self.cutter;
         let setup = self.setup;
         if setup.packed {
-            return cut_reader::read_packed(cutter, part, setup.checksum);
+            cut_reader::read_packed(self.cutter, part, setup.checksum)
+        } else {
+            cut_reader::read_text(self.cutter, part, setup.checksum)
         }
-        cut_reader::read_text(cutter, part, setup.checksum)
     }
 
     // What it makes of the message that ends with this part.
-    fn make(self, part: &[u8]) -> Made
-        ensures { result ≡ told_as (reading_in self part.now) }
+    fn make(self, part: &[u8]) -> Reading
+        ensures { result ≡ reading_in self part.now }
     {
         if self.opened {
-            let read = self.read_record(part);
-            let verdict = read.verdict;
-            let fields = read.contents;
-            return Made {
-                verdict,
-                opening: false,
-                items: fixed::no_fixed(),
-                fields,
-            };
+            Reading::Record(self.read_record(part))
+        } else {
+            Reading::Fixed(cut_reader::read_fixed(self.cutter, part, false))
         }
-        let cutter = self.cutter;
-        let read = cut_reader::read_fixed(cutter, part, false);
-        let verdict = read.verdict;
-        let items = read.contents;
-        Made {
-            verdict,
-            opening: true,
-            items,
-            fields: record::no_record(),
+    }
+
+    // Whether it is open after a message.
+    fn is_opened_by(self, reading: Reading) -> bool
+        ensures { result ≡ opens_by self.opened reading }
+    {
+        match reading {
+            Reading::Fixed(read) => read.is_ok(),
+            Reading::Record(_) => self.opened,
         }
     }
 
@@ -189,24 +155,16 @@ impl Recorder {
     {
         if !self.is_valid() {
             return Recorded {
-                made: no_message(Verdict::Refused(Refusal::State)),
+                made: Err(Refusal::State),
                 used: 0,
-                ended: false,
                 recorder: self,
             };
         }
-        let cutter = self.cutter;
-        let setup = self.setup;
+        let cutter = self.cutter.held(piece);
         Recorded {
-            made: no_message(Verdict::Done),
+            made: Ok(None),
             used: piece.len(),
-            ended: false,
-            recorder: Recorder {
-                cutter: cutter.held(piece),
-                setup,
-                sent: self.sent,
-                opened: self.opened,
-            },
+            recorder: Recorder { cutter, ..self },
         }
     }
 
@@ -214,24 +172,17 @@ impl Recorder {
     pub fn take(self, piece: &[u8]) -> Recorded
         ensures { RecorderTake self piece.now result }
     {
-        let cutter = self.cutter;
-        let n = cutter.end_in(piece);
-        if n == 0 {
+        let Some(n) = self.cutter.end_in(piece) else {
             return self.hold(piece);
-        }
-        let made = self.make(&piece[0..n]);
-        let verdict = made.verdict;
-        let setup = self.setup;
-        let opened = self.opened | refusal::is_done(verdict);
+        };
+        let reading = self.make(&piece[..n]);
         Recorded {
-            made,
+            made: Ok(Some(reading)),
             used: n,
-            ended: true,
             recorder: Recorder {
                 cutter: Cutter::fresh(),
-                setup,
-                sent: self.sent,
-                opened,
+                opened: self.is_opened_by(reading),
+                ..self
             },
         }
     }

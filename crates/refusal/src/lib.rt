@@ -1,7 +1,9 @@
 // The refusals of document 01 and the requests, each with the number and the value that the paper gives it.
 #![tactic(auto)]
 
-ghost use Rattle.refusal.specs.Clauses.{NumberOf, ValueOf, IsDone};
+ghost use Rattle.std.specs.Prelude.{◌≡◌};
+ghost use Rattle.refusal.specs.declared.Refusal.TheVariants.{Contents};
+ghost use Rattle.refusal.specs.Clauses.{NumberOf, ValueOf};
 
 #[derive(Clone, Copy)]
 pub enum Refusal {
@@ -33,14 +35,19 @@ pub enum Refusal {
     State,
 }
 
-// Where the contents of an answer stand beside it: done, or the refusal that left them zero.
+// The first wrong field or item of contents that no writer writes, before it is refused by 6.
 #[derive(Clone, Copy)]
-pub enum Verdict {
-    Done,
-    Refused(Refusal),
+pub struct Wrong(pub u32);
+
+impl From<Wrong> for Refusal {
+    ghost from_gives = { λ wrong r. r ≡ Contents wrong.0 };
+
+    fn from(wrong: Wrong) -> Refusal {
+        Refusal::Contents(wrong.0)
+    }
 }
 
-// The paper's number.
+// The paper's number. (A column of a table, as the value is, so that neither is the conversion, `From`.)
 pub fn number_of(r: Refusal) -> u32
     ensures { NumberOf r result }
 {
@@ -79,15 +86,5 @@ pub fn value_of(r: Refusal) -> usize
         Refusal::Lost => 0,
         Refusal::NoPort => 0,
         Refusal::State => 0,
-    }
-}
-
-// Whether nothing is refused.
-pub fn is_done(v: Verdict) -> bool
-    ensures { IsDone v result }
-{
-    match v {
-        Verdict::Done => true,
-        Verdict::Refused(_) => false,
     }
 }

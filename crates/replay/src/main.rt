@@ -13,11 +13,8 @@
 #![tactic(auto)]
 
 ghost use Rattle.std.specs.Prelude.{◌≡◌, ◌+◌, ◌≤◌, length};
-ghost use Rattle.replay.specs.Desk.{count_in};
 
 use follow::Follower;
-use frame::Wrote;
-use refusal::Verdict;
 use std::env::FillError;
 use std::io::{Print, Read};
 use std::rt::Env;
@@ -47,12 +44,11 @@ struct Step {
     used: usize,
 }
 
-// What the arguments ask for, and whether that was all of them.
+// What the arguments ask for.
 #[derive(Clone, Copy)]
 struct Asked {
     ports: bool,
     letter: u8,
-    understood: bool,
 }
 
 // Writes what is unwritten. (Output that cannot be written is lost, and the run goes on.)
@@ -73,54 +69,37 @@ fn place(to: &impl Print, out: &[u8], unwritten: usize) -> usize
     0
 }
 
-// How many bytes a call printed. (With room and a started lens none is refused.)
-fn printed(wrote: Wrote) -> usize
-    ensures { result ≡ count_in wrote }
-{
-    match wrote {
-        Wrote::Count(n) => n,
-        Wrote::Refused(_) => 0,
-    }
-}
-
-// The next line of the input, or what has come of it.
+// The next line of the input, or what has come of it. (With room and a started lens no call is refused.)
 fn advance(to: &impl Print, desk: Desk, input: &[u8], out: &mut [u8]) -> Step
     requires { length out.old ≡ 65536 }
     ensures { result.used ≤ length input.now }
 {
     let at = place(to, out, desk.unwritten);
-    let before = desk.follower;
-    let followed = before.take(input, &mut out[at..]);
-    let follower = followed.follower;
-    let runs = follower.runs;
-    let wrote = followed.wrote;
+    let followed = desk.follower.take(input, &mut out[at..]);
     Step {
         desk: Desk {
-            follower,
-            unwritten: at + printed(wrote),
-            open: !runs.is_over(),
+            follower: followed.follower,
+            unwritten: at + followed.wrote.unwrap_or(0),
+            open: !followed.follower.runs.is_over(),
         },
         used: followed.used,
     }
 }
 
-// The bytes of one read, line after line.
+// The bytes of one read, line after line: steps of any length, so no `for`.
 fn take_all(to: &impl Print, desk: Desk, input: &[u8], out: &mut [u8]) -> Desk
     requires { length out.old ≡ 65536 }
 {
     let mut now = desk;
-    let mut at = 0;
-    while at < input.len() {
-        if !now.open {
-            return now;
-        }
-        let step = advance(to, now, &input[at..], out);
+    let mut rest = input;
+    while now.open && !rest.is_empty() {
+        let step = advance(to, now, rest, out);
         let after = step.desk;
         now = after;
         if step.used == 0 {
             return now;
         }
-        at += step.used;
+        rest = &rest[step.used..];
     }
     now
 }
@@ -130,15 +109,18 @@ fn turn(from: &mut impl Read, to: &impl Print, desk: Desk) -> Desk {
     let mut input = [0u8; INPUT_LENGTH];
     let n = from.read(&mut input).unwrap_or(0);
     if n == 0 {
-        let mut closed = desk;
-        closed.open = false;
-        return closed;
+        return Desk {
+            open: false,
+            ..desk
+        };
     }
     let mut out = [0u8; OUTPUT_LENGTH];
-    let mut after = take_all(to, desk, &input[..n], &mut out);
+    let after = take_all(to, desk, &input[..n], &mut out);
     write(to, &out, after.unwritten);
-    after.unwritten = 0;
-    after
+    Desk {
+        unwritten: 0,
+        ..after
+    }
 }
 
 // A proved loop has to end, and nothing says that the input does: the turns count up to a number that no run
@@ -147,78 +129,59 @@ fn run_all(from: &mut impl Read, to: &impl Print, desk: Desk) -> Follower {
     let mut now = desk;
     for _ in 0..u64::MAX {
         if !now.open {
-            let follower = now.follower;
-            return follower;
+            return now.follower;
         }
         now = turn(from, to, now);
     }
-    let follower = now.follower;
-    follower
+    now.follower
 }
 
 // What a last line without its LF told, and the slots run.
 fn end(to: &impl Print, follower: Follower) {
     let mut out = [0u8; OUTPUT_LENGTH];
     let closed = follower.close(&mut out);
-    let wrote = closed.wrote;
-    write(to, &out, printed(wrote));
-    let after = closed.follower;
-    let runs = after.runs;
-    let counted = runs.count(&mut out);
-    write(to, &out, printed(counted));
+    write(to, &out, closed.wrote.unwrap_or(0));
+    let counted = closed.follower.runs.count(&mut out);
+    write(to, &out, counted.unwrap_or(0));
 }
 
-// Whether a word is `ports`.
-fn is_ports(word: &[u8]) -> bool {
-    if word.len() != 5 {
-        return false;
-    }
-    let first = (word[0] == b'p') & (word[1] == b'o') & (word[2] == b'r');
-    first & (word[3] == b't') & (word[4] == b's')
-}
-
-// The start-up letter that the argument of this number gives, which is the last one.
-fn asked_by(rt: &impl Env, ports: bool, at: usize) -> Asked
+// The start-up letter that the argument of this number gives; none where another follows it.
+fn asked_by(rt: &impl Env, ports: bool, at: usize) -> Option<Asked>
     requires { at ≤ 2 }
 {
     let mut word = [0u8; WORD_LENGTH];
     let n = rt.arg(at, &mut word).unwrap_or(0);
     let letter = bench_lens::letter_of(&word[..n]);
-    let understood = matches!(rt.arg(at + 1, &mut word), Err(FillError::NotPresent));
-    Asked {
+    matches!(rt.arg(at + 1, &mut word), Err(FillError::NotPresent)).then_some(Asked {
         ports,
         letter,
-        understood,
-    }
+    })
 }
 
 // [ports] [LETTER]
-fn all_asked(rt: &impl Env) -> Asked {
+fn all_asked(rt: &impl Env) -> Option<Asked> {
     let mut word = [0u8; WORD_LENGTH];
     let n = rt.arg(1, &mut word).unwrap_or(0);
-    if is_ports(&word[..n]) {
+    if &word[..n] == b"ports".as_slice() {
         return asked_by(rt, true, 2);
     }
     asked_by(rt, false, 1)
 }
 
 fn main(rt: HostRuntime) {
-    let asked = all_asked(&rt);
-    if !asked.understood {
+    let Some(asked) = all_asked(&rt) else {
         let _ = eprintln!(rt;
             "replay: takes the word ports, then a start-up letter, and no more: replay [ports] [LETTER]"
         );
         return;
-    }
+    };
     let begun = Follower::start(asked.letter, asked.ports);
-    let verdict = begun.verdict;
-    if let Verdict::Refused(_) = verdict {
+    if begun.verdict.is_err() {
         let _ = eprintln!(rt; "replay: the start-up letter is none of I, M, B, b");
         return;
     }
-    let follower = begun.follower;
     let desk = Desk {
-        follower,
+        follower: begun.follower,
         unwritten: 0,
         open: true,
     };

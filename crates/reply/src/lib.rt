@@ -30,12 +30,8 @@ pub struct Acted {
 fn record_now(source: Source) -> Record
     ensures { result ≡ table.record_now source }
 {
-    let settings = source.settings;
-    let fixed = settings.fixed;
-    let measurement = source.measurement;
-    let modes = source.modes;
-    let serial = fixed.serial;
-    units::record_of(measurement, modes.unit, serial)
+    let serial = source.settings.fixed.serial;
+    units::record_of(source.measurement, source.modes.unit, serial)
 }
 
 // The record in this form; where continuous sending is off, the text.
@@ -43,11 +39,9 @@ fn record_in(source: Source, form: Sending) -> Message
     ensures { result ≡ unsent (framed source.modes.checksum (table.record_is form source)) }
 {
     let record = record_now(source);
-    let modes = source.modes;
-    let checksum = modes.checksum;
+    let checksum = source.modes.checksum;
     match form {
-        Sending::Off => messages::text_message(record, checksum),
-        Sending::Text => messages::text_message(record, checksum),
+        Sending::Off | Sending::Text => messages::text_message(record, checksum),
         Sending::Packed => messages::packed_message(record, checksum),
     }
 }
@@ -70,8 +64,7 @@ fn silent(source: Source) -> Acted
 fn answer(source: Source, byte: u8) -> Acted
     ensures { result ≡ acted_of (table.replies source (byte ∷ [])) }
 {
-    let modes = source.modes;
-    let message = messages::letter_message(byte, modes.checksum);
+    let message = messages::letter_message(byte, source.modes.checksum);
     Acted { source, message }
 }
 
@@ -79,11 +72,8 @@ fn answer(source: Source, byte: u8) -> Acted
 fn version(source: Source) -> Acted
     ensures { result ≡ acted_of (table.replies source (66 ∷ 32 ∷ source.settings.fixed.version)) }
 {
-    let settings = source.settings;
-    let fixed = settings.fixed;
-    let version = fixed.version;
-    let modes = source.modes;
-    let message = messages::version_message(version, modes.checksum);
+    let version = source.settings.fixed.version;
+    let message = messages::version_message(version, source.modes.checksum);
     Acted { source, message }
 }
 
@@ -91,10 +81,7 @@ fn version(source: Source) -> Acted
 fn maker(source: Source) -> Acted
     ensures { result ≡ acted_of (table.replies source (75 ∷ 51 ∷ source.settings.maker)) }
 {
-    let settings = source.settings;
-    let maker = settings.maker;
-    let modes = source.modes;
-    let message = messages::maker_message(maker, modes.checksum);
+    let message = messages::maker_message(source.settings.maker, source.modes.checksum);
     Acted { source, message }
 }
 
@@ -102,10 +89,7 @@ fn maker(source: Source) -> Acted
 fn type_name(source: Source) -> Acted
     ensures { result ≡ acted_of (table.replies source (75 ∷ 52 ∷ source.settings.type_name)) }
 {
-    let settings = source.settings;
-    let name = settings.type_name;
-    let modes = source.modes;
-    let message = messages::type_message(name, modes.checksum);
+    let message = messages::type_message(source.settings.type_name, source.modes.checksum);
     Acted { source, message }
 }
 
@@ -121,10 +105,7 @@ fn record_reply(source: Source, form: Sending) -> Acted
 fn fixed_data(source: Source) -> Acted
     ensures { result ≡ acted_of (table.replies source (fixed_form.print source.settings.fixed)) }
 {
-    let settings = source.settings;
-    let fixed = settings.fixed;
-    let modes = source.modes;
-    let message = messages::fixed_message(fixed, modes.checksum);
+    let message = messages::fixed_message(source.settings.fixed, source.modes.checksum);
     Acted { source, message }
 }
 
@@ -132,10 +113,8 @@ fn fixed_data(source: Source) -> Acted
 fn temperature(source: Source) -> Acted
     ensures { result ≡ acted_of (table.replies source (80 ∷ degrees source.measurement.temperature)) }
 {
-    let measurement = source.measurement;
-    let t = measurement.temperature;
-    let modes = source.modes;
-    let message = messages::degrees_message(t, modes.checksum);
+    let t = source.measurement.temperature;
+    let message = messages::degrees_message(t, source.modes.checksum);
     Acted { source, message }
 }
 
@@ -144,13 +123,10 @@ fn film(source: Source, letter: u8, n: u8) -> Acted
     requires { n ≤ 31 }
     ensures { result ≡ acted_of (table.filmed letter n source) }
 {
-    let mut modes = source.modes;
-    modes.film = n;
     let mut after = source;
-    after.modes = modes;
-    let settings = source.settings;
-    let blur = settings.blur;
-    let message = messages::blur_message(letter, blur[n as usize], modes.checksum);
+    after.modes.film = n;
+    let circle = source.settings.blur[n as usize];
+    let message = messages::blur_message(letter, circle, source.modes.checksum);
     Acted {
         source: after,
         message,
@@ -162,11 +138,9 @@ fn rate(source: Source, n: u8) -> Acted
     requires { n ≤ 7 }
     ensures { result ≡ acted_of (table.runs source (lines.Kb n)) }
 {
-    let mut modes = source.modes;
-    modes.next_rate = n;
     let mut after = source;
-    after.modes = modes;
-    let message = messages::rate_message(b'0' + n, modes.checksum);
+    after.modes.next_rate = n;
+    let message = messages::rate_message(b'0' + n, source.modes.checksum);
     Acted {
         source: after,
         message,
@@ -187,15 +161,9 @@ fn relettered(to: u8, letter: u8) -> u8
 fn unit(source: Source, unit: u8, to: u8, byte: u8) -> Acted
     ensures { result ≡ acted_of (table.replies (table.unit_with unit to source) (byte ∷ [])) }
 {
-    let mut settings = source.settings;
-    let mut fixed = settings.fixed;
-    fixed.letter = relettered(to, fixed.letter);
-    settings.fixed = fixed;
-    let mut modes = source.modes;
-    modes.unit = unit;
     let mut after = source;
-    after.settings = settings;
-    after.modes = modes;
+    after.settings.fixed.lens.letter = relettered(to, source.settings.fixed.lens.letter);
+    after.modes.unit = unit;
     answer(after, byte)
 }
 
@@ -216,18 +184,8 @@ fn changed(source: Source, modes: Modes) -> Acted
 fn sending_on(source: Source, sending: Sending) -> Acted
     ensures { result ≡ acted_of (table.replies (table.with_modes source (table.sending_now sending source.modes)) (33 ∷ [])) }
 {
-    let m = source.modes;
-    let state = m.state;
-    let modes = Modes {
-        state,
-        sending,
-        checksum: m.checksum,
-        inhibit: m.inhibit,
-        film: m.film,
-        unit: m.unit,
-        rate: m.rate,
-        next_rate: m.next_rate,
-    };
+    let mut modes = source.modes;
+    modes.sending = sending;
     changed(source, modes)
 }
 
@@ -253,17 +211,11 @@ fn inhibit_on(source: Source) -> Acted
 fn all_off(source: Source) -> Acted
     ensures { result ≡ acted_of (table.replies (table.with_modes source (table.quiet_now source.modes)) (33 ∷ [])) }
 {
-    let before = source.modes;
-    let state = before.state;
     let modes = Modes {
-        state,
         sending: Sending::Off,
         checksum: false,
         inhibit: false,
-        film: before.film,
-        unit: before.unit,
-        rate: before.rate,
-        next_rate: before.next_rate,
+        ..source.modes
     };
     changed(source, modes)
 }
@@ -272,8 +224,7 @@ fn all_off(source: Source) -> Acted
 fn unknown(source: Source) -> Acted
     ensures { result ≡ acted_of (table.runs source lines.Unknown) }
 {
-    let modes = source.modes;
-    if modes.inhibit {
+    if source.modes.inhibit {
         return silent(source);
     }
     answer(source, b'?')
@@ -311,30 +262,15 @@ fn running(source: Source, command: Command) -> Acted
 fn is_n(command: Command) -> bool
     ensures { result ≡ table.is_n command }
 {
-    match command {
-        Command::N => true,
-        _ => false,
-    }
+    matches!(command, Command::N)
 }
 
 // The fixed data, and on to running.
 fn woken(source: Source) -> Acted
     ensures { result ≡ acted_of (table.wakes source) }
 {
-    let m = source.modes;
-    let sending = m.sending;
-    let modes = Modes {
-        state: State::Running,
-        sending,
-        checksum: m.checksum,
-        inhibit: m.inhibit,
-        film: m.film,
-        unit: m.unit,
-        rate: m.rate,
-        next_rate: m.next_rate,
-    };
     let mut after = source;
-    after.modes = modes;
+    after.modes.state = State::Running;
     fixed_data(after)
 }
 
@@ -353,9 +289,7 @@ pub fn act(source: Source, line: Line) -> Acted
     ensures { Act source line result }
 {
     let command = line.command();
-    let modes = source.modes;
-    let state = modes.state;
-    match state {
+    match source.modes.state {
         State::Ready => ready(source, command),
         State::Running => running(source, command),
     }
@@ -366,9 +300,7 @@ pub fn counts(source: Source, line: Line) -> bool
     ensures { Counts source line result }
 {
     let command = line.command();
-    let modes = source.modes;
-    let state = modes.state;
-    match state {
+    match source.modes.state {
         State::Ready => is_n(command),
         State::Running => true,
     }
@@ -378,20 +310,12 @@ pub fn counts(source: Source, line: Line) -> bool
 pub fn is_continuous(source: Source) -> bool
     ensures { IsContinuous source result }
 {
-    let modes = source.modes;
-    let sending = modes.sending;
-    match sending {
-        Sending::Off => false,
-        Sending::Text => true,
-        Sending::Packed => true,
-    }
+    source.modes.sending != Sending::Off
 }
 
 // The record that continuous sending starts.
 pub fn record_message(source: Source) -> Message
     ensures { RecordMessage source result }
 {
-    let modes = source.modes;
-    let sending = modes.sending;
-    record_in(source, sending)
+    record_in(source, source.modes.sending)
 }

@@ -69,7 +69,7 @@ relettered_same to l h =
 
 letter_same : (to : ℕ) (s : Settings) → letter_ok to ≡ true → settings_lowest (letter_now to s) ≡ settings_lowest s
 unfolding settings_lowest fixed_lowest lens_lowest
-letter_same to s h = rw (relettered_same to s.fixed.letter h)
+letter_same to s h = rw (relettered_same to s.fixed.lens.letter h)
 
 unit_valid : (u to : ℕ) (s : Source) → is_unit u ≡ true → letter_ok to ≡ true → Valid s → Valid (unit_with u to s)
 unit_valid u to s k h p = record {

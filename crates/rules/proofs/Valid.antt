@@ -4,10 +4,9 @@ use mathlib.Core.Bool.{true, false≢true}
 use mathlib.Core.Path.{◌≡◌, refl, ap, ◌∙◌}
 use borrow.Author.Tests.{eqb-true, eq-eqb}
 use lib.Dec.{leb, eqb}
+use Rattle.std.specs.Prelude.{Err, Ok}
 use Rattle.laws.proofs.Tests.{and_left, and_right, and_both}
-use Rattle.refusal.specs.Answer.{is_done}
-use Rattle.refusal.specs.declared.Verdict.{Verdict}
-use Rattle.refusal.specs.declared.Verdict.TheVariants.{Done, Refused}
+use Rattle.refusal.specs.Answer.{Verdict, is_done}
 use Rattle.fixed.specs.Fixed.{settings_lowest}
 use Rattle.units.specs.Units.{is_unit}
 use Rattle.units.specs.Measurement.{measurement_verdict}
@@ -17,15 +16,15 @@ use Rattle.rules.specs.Rows.{Untouched}
 
 pub record Valid (s : Source) : Type 0 where
   pub settings : settings_lowest s.settings ≡ 0
-  pub measurement : measurement_verdict s.measurement ≡ Done
+  pub measurement : measurement_verdict s.measurement ≡ Ok tt
   pub film : leb s.modes.film 31 ≡ true
   pub unit : is_unit s.modes.unit ≡ true
   pub rate : leb s.modes.rate 7 ≡ true
   pub next_rate_lem : leb s.modes.next_rate 7 ≡ true
 
-pub done_is : (v : Verdict) → is_done v ≡ true → v ≡ Done
-done_is Done e = refl
-done_is (Refused r) e = absurd (false≢true e)
+pub done_is : (v : Verdict) → is_done v ≡ true → v ≡ Ok tt
+done_is (Ok tt) e = refl
+done_is (Err r) e = absurd (false≢true e)
 
 pub valid_told : (s : Source) → valid_source s ≡ true → Valid s
 unfolding valid_source valid_modes

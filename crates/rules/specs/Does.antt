@@ -62,11 +62,7 @@ abbrev pub fixed_with : ℕ → Fixed → Fixed
 fixed_with l f = record {
   serial = f.serial;
   owner = f.owner;
-  kind = f.kind;
-  focal = f.focal;
-  maximum = f.maximum;
-  letter = l;
-  transmission = f.transmission;
+  lens = record { kind = f.lens.kind; focal = f.lens.focal; maximum = f.lens.maximum; letter = l; transmission = f.lens.transmission };
   version = f.version;
 }
 
@@ -74,7 +70,7 @@ abbrev pub lettered_with : ℕ → Settings → Settings
 lettered_with l s = record { fixed = fixed_with l s.fixed; maker = s.maker; type_name = s.type_name; blur = s.blur }
 
 abbrev pub letter_now : ℕ → Settings → Settings
-letter_now to s = lettered_with (relettered to s.fixed.letter) s
+letter_now to s = lettered_with (relettered to s.fixed.lens.letter) s
 
 -- the display unit, and the start-up letter
 abbrev pub unit_with : ℕ → ℕ → Source → Source

@@ -1,8 +1,7 @@
 -- Document 01's table of commands, as the requests amend it, by what a camera may rely on: what each row answers, byte by byte, and what it
 -- switches, nothing else; and with it the readings of the table that have gone wrong. Statements only.
-use Rattle.std.specs.Prelude.{ℕ, ◌+◌, ◌≤◌, ◌<◌, Bool, true, false, List, [], ◌∷◌, ◌≢◌, ◌↔◌, ◌≡◌, pos, negsuc, get_or}
+use Rattle.std.specs.Prelude.{ℕ, ◌+◌, ◌≤◌, ◌<◌, Bool, true, false, List, [], ◌∷◌, ◌≢◌, ◌↔◌, ◌≡◌, pos, negsuc, get_or, Ok}
 use Rattle.digits.specs.Digits.{decimal}
-use Rattle.refusal.specs.declared.Verdict.TheVariants.{Done}
 use Rattle.frame.specs.Frame.{framed}
 use Rattle.record.specs.Forms.{text_form, packed_form}
 use Rattle.fixed.specs.Form.{fixed_form}
@@ -44,7 +43,7 @@ abbrev pub others : Source → Others
 others t =
     let x = t.settings in
     let f = x.fixed in
-    (t.modes.state, t.modes.rate, t.measurement, f.serial, f.owner, f.kind, f.focal, f.maximum, f.transmission, f.version, x.maker, x.type_name, x.blur)
+    (t.modes.state, t.modes.rate, t.measurement, f.serial, f.owner, f.lens.kind, f.lens.focal, f.lens.maximum, f.lens.transmission, f.version, x.maker, x.type_name, x.blur)
 
 module _ (s : Source) where
   -- a body as it is sent where the command leaves the checksum mode
@@ -80,7 +79,7 @@ module _ (s : Source) where
     pub ended_keeps : ((lens.ended s).settings ≡ s.settings) × ((lens.ended s).measurement ≡ s.measurement) × ((lens.ended s).modes.state ≡ s.modes.state)
     pub ended_switches : switches (lens.ended s) ≡ switches s
     -- a new measurement takes the old one's place, where it is in range, and nothing else changes
-    pub measures : (m : Measurement) → measurement_verdict m ≡ Done →
+    pub measures : (m : Measurement) → measurement_verdict m ≡ Ok tt →
         lens.update s (measurement m) ≡ record { settings = s.settings; measurement = m; modes = s.modes }
     -- "X or Y on one port changes a B or b that the other's N shows, and nothing else there": the settings become what X or Y would make of them here
     pub x_elsewhere : (lens.update s (elsewhere by_x)).settings ≡ (runs s X).source.settings
@@ -110,10 +109,10 @@ module _ (s : Source) where
     pub x_switches : let m = s.modes in switches (runs s X).source ≡ (m.sending, m.checksum, m.inhibit, m.film, 0x49, m.next_rate)
     pub y_switches : let m = s.modes in switches (runs s Y).source ≡ (m.sending, m.checksum, m.inhibit, m.film, 0x4D, m.next_rate)
     -- the start-up letter: I and M stay, B or b becomes B by X, b by Y (no other command touches it: Unread)
-    pub i_stays : s.settings.fixed.letter ≡ 0x49 → ((runs s X).source.settings.fixed.letter ≡ 0x49) × ((runs s Y).source.settings.fixed.letter ≡ 0x49)
-    pub m_stays : s.settings.fixed.letter ≡ 0x4D → ((runs s X).source.settings.fixed.letter ≡ 0x4D) × ((runs s Y).source.settings.fixed.letter ≡ 0x4D)
-    pub b_turns : s.settings.fixed.letter ≡ 0x62 → ((runs s X).source.settings.fixed.letter ≡ 0x42) × ((runs s Y).source.settings.fixed.letter ≡ 0x62)
-    pub capital_b_turns : s.settings.fixed.letter ≡ 0x42 → ((runs s X).source.settings.fixed.letter ≡ 0x42) × ((runs s Y).source.settings.fixed.letter ≡ 0x62)
+    pub i_stays : s.settings.fixed.lens.letter ≡ 0x49 → ((runs s X).source.settings.fixed.lens.letter ≡ 0x49) × ((runs s Y).source.settings.fixed.lens.letter ≡ 0x49)
+    pub m_stays : s.settings.fixed.lens.letter ≡ 0x4D → ((runs s X).source.settings.fixed.lens.letter ≡ 0x4D) × ((runs s Y).source.settings.fixed.lens.letter ≡ 0x4D)
+    pub b_turns : s.settings.fixed.lens.letter ≡ 0x62 → ((runs s X).source.settings.fixed.lens.letter ≡ 0x42) × ((runs s Y).source.settings.fixed.lens.letter ≡ 0x62)
+    pub capital_b_turns : s.settings.fixed.lens.letter ≡ 0x42 → ((runs s X).source.settings.fixed.lens.letter ≡ 0x42) × ((runs s Y).source.settings.fixed.lens.letter ≡ 0x62)
     -- what only asks, and an unknown command, changes nothing
     pub b_asks : (runs s B).source ≡ s
     pub d_asks : (runs s D).source ≡ s

@@ -1,22 +1,21 @@
 -- The port of a line, as laws over plain lists. Assumes nothing.
 use Prim.Native.Nat.{ℕ, ◌-◌, ◌≤◌, ◌<◌}
-use mathlib.Core.Bool.{Bool, true, false, ◌&&◌}
+use mathlib.Core.Bool.{true, false, ◌&&◌}
 use mathlib.Core.List.{List, [], ◌∷◌}
-use mathlib.Core.Path.{◌≡◌, refl, sym, ap, ◌∙◌}
+use mathlib.Core.Path.{◌≡◌, refl, ap, ◌∙◌}
 use native.Mathlib.Omega.{arith}
 use lib.Dec.{eqb}
 use lib.ListN.{length, take, drop, get_or}
 use Rattle.laws.specs.Gives.{Gives}
 use Rattle.laws.proofs.ListLaws.{last_part}
-use Rattle.laws.proofs.Tests.{yes, no, never, and_right}
+use Rattle.laws.proofs.Tests.{never}
 use Rattle.connectors.specs.declared.Side.{Side}
-use Rattle.connectors.specs.declared.Side.TheVariants.{Camera, External}
 use Rattle.capture.specs.Words.{space}
 use Rattle.telling.specs.Clauses.{RunTell}
 use Rattle.telling.specs.Telling.{told_of, told_leaves}
 use Rattle.telling.specs.declared.Run.{Run}
 use Rattle.telling.specs.declared.Told.{Told}
-use Rattle.runs.specs.Runs.{is_numbered, event_on, event_at, run_at, with_run, told_at, told_at_leaves}
+use Rattle.runs.specs.Runs.{is_numbered, event_on, run_at, with_run, told_at, told_at_leaves}
 use Rattle.runs.specs.declared.Addressed.{Addressed}
 use Rattle.runs.specs.declared.Runs.{Runs}
 
@@ -42,35 +41,13 @@ module _ (n : ℕ) where
   numbered_two (b ∷ []) h = never (cc)
   numbered_two (b ∷ c ∷ s) h = omega arith
 
--- ---- the event of a line, by the tests that were made
+-- what stands behind it
+pub rest_on : (s : List ℕ) (a : Side) {r : Addressed} → 2 ≤ length s → r ≡ event_on a (take (length s - 2) (drop 2 s)) → r ≡ event_on a (drop 2 s)
+rest_on s a h e = e ∙ ap (event_on a) (last_part 2 (length s - 2) s (omega arith))
 
-module _ (ports : Bool) (s : List ℕ) where
-  -- what stands behind the number
-  rest_on : (a : Side) {r : Addressed} → 2 ≤ length s → r ≡ event_on a (take (length s - 2) (drop 2 s)) → r ≡ event_on a (drop 2 s)
-  rest_on a h e = e ∙ ap (event_on a) (last_part 2 (length s - 2) s (omega arith))
+-- ---- a call
 
-  pub at_camera : {n : Bool} {r : Addressed} → n ≡ is_numbered 48 s → (ports && n) ≡ true → r ≡ event_on Camera (take (length s - 2) (drop 2 s)) →
-      r ≡ event_at ports s
-  unfolding event_at
-  at_camera {n} e t h =
-      let y = ap (λ (b : Bool). ports && b) (sym e) ∙ t in
-      yes _ y (rest_on Camera (numbered_two 48 s (and_right ports _ y)) h)
-
-  pub at_external : {n m : Bool} {r : Addressed} → n ≡ is_numbered 48 s → (ports && n) ≡ false → m ≡ is_numbered 49 s → (ports && m) ≡ true →
-      r ≡ event_on External (take (length s - 2) (drop 2 s)) → r ≡ event_at ports s
-  unfolding event_at
-  at_external e f g t h =
-      let y = ap (λ (b : Bool). ports && b) (sym g) ∙ t in
-      no _ (ap (λ (b : Bool). ports && b) (sym e) ∙ f) (yes _ y (rest_on External (numbered_two 49 s (and_right ports _ y)) h))
-
-  pub at_neither : {n m : Bool} {r : Addressed} → n ≡ is_numbered 48 s → (ports && n) ≡ false → m ≡ is_numbered 49 s → (ports && m) ≡ false →
-      r ≡ event_on Camera s → r ≡ event_at ports s
-  unfolding event_at
-  at_neither e f g t h = no _ (ap (λ (b : Bool). ports && b) (sym e) ∙ f) (no _ (ap (λ (b : Bool). ports && b) (sym g) ∙ t) h)
-
--- ---- an event on its port
-
--- the run of the port was told and put back
+-- what the run of the line's port told is what the runs tell
 pub told_at_lem : (r : Runs) (x : Addressed) (out : List ℕ) {q : Run} {t : Told} {w : Runs} {after : List ℕ} →
     q ≡ run_at r x.side → RunTell q x.event out t after → w ≡ with_run r x.side t.run →
     Gives (told_at r x out) (told_at_leaves r x out) (record { wrote = t.wrote; runs = w }) after

@@ -5,12 +5,11 @@ use mathlib.Core.List.{List, []}
 use mathlib.Core.Logic.{◌↔◌}
 use mathlib.Core.Path.{◌≡◌, refl, sym, ap, ap₂, ◌∙◌}
 use lib.ListN.{length}
+use Rattle.std.specs.Prelude.{Err, Ok}
 use Rattle.laws.specs.Over.{over as written}
 use Rattle.laws.proofs.Tests.{and_left, and_right, and_both, and_fails}
+use Rattle.refusal.specs.Answer.{Verdict}
 use Rattle.refusal.specs.declared.Refusal.{Refusal}
-use Rattle.refusal.specs.declared.Verdict.{Verdict}
-use Rattle.refusal.specs.declared.Verdict.TheVariants.{Done, Refused}
-use Rattle.frame.specs.declared.Wrote.TheVariants as wrote
 use Rattle.bench_lens.specs.Bench.{bench_settings, bench_measurement}
 use Rattle.line.specs.declared.Line.{Line}
 use Rattle.line.specs.Line.{blank, valid_line}
@@ -104,15 +103,15 @@ module _ (letter : ℕ) where
 
   same_verdict : (v : Verdict) → (both v).verdict ≡ (one v).verdict
   unfolding handed
-  same_verdict Done = refl
-  same_verdict (Refused x) = refl
+  same_verdict (Ok tt) = refl
+  same_verdict (Err x) = refl
 
   same_port : (v : Verdict) (a : Side) → (port_at (both v).connectors a ≡ (one v).port) × (line_at (both v).lines a ≡ (one v).line)
   unfolding handed
-  same_port Done Camera = (refl, refl)
-  same_port Done External = (refl, refl)
-  same_port (Refused x) Camera = (refl, refl)
-  same_port (Refused x) External = (refl, refl)
+  same_port (Ok tt) Camera = (refl, refl)
+  same_port (Ok tt) External = (refl, refl)
+  same_port (Err x) Camera = (refl, refl)
+  same_port (Err x) External = (refl, refl)
 
   start_verdict_lem : (start_runs letter).verdict ≡ (start_with letter).verdict
   unfolding start_runs start_both both_verdict start_with start_of
@@ -170,13 +169,13 @@ unfolding valid_runs
 none_valid r e = sym (and_fails _ e)
 
 tell_done : (r : Runs) (x : Addressed) (out : List ℕ) → valid_run (run_at r x.side) ≡ true → length (tell_at r x).text ≤ length out →
-    (told_at r x out ≡ record { wrote = wrote.Count (length (tell_at r x).text); runs = (tell_at r x).runs }) × (told_at_leaves r x out ≡ written out 0 (tell_at r x).text)
+    (told_at r x out ≡ record { wrote = Ok (length (tell_at r x).text); runs = (tell_at r x).runs }) × (told_at_leaves r x out ≡ written out 0 (tell_at r x).text)
 unfolding tell_at told_at
 tell_done r x out v h =
     let e = (telling.each_call).tell_done (run_at r x.side) x.event out v h in
     (ap (λ (t : Told). record { wrote = t.wrote; runs = with_run r x.side t.run }) e.0, e.1)
 
-tell_same : (r : Runs) (x : Addressed) (out : List ℕ) (y : Refusal) → (told_at r x out).wrote ≡ wrote.Refused y →
+tell_same : (r : Runs) (x : Addressed) (out : List ℕ) (y : Refusal) → (told_at r x out).wrote ≡ Err y →
     ((told_at r x out).runs ≡ r) × (told_at_leaves r x out ≡ out)
 unfolding told_at
 tell_same r x out y h =

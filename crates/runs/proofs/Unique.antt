@@ -4,7 +4,7 @@ use mathlib.Core.Bool.{Bool}
 use mathlib.Core.List.{List}
 use mathlib.Core.Path.{◌≡◌}
 use Rattle.laws.proofs.OneAnswer.{one_answer, one_outcome}
-use Rattle.frame.specs.declared.Wrote.{Wrote}
+use Rattle.refusal.specs.Answer.{Answer}
 use Rattle.connectors.specs.declared.Side.{Side}
 use Rattle.telling.specs.declared.Run.{Run}
 use Rattle.runs.specs.Clauses.{EventAt, RunsStart, RunsRunAt, RunsIsValid, RunsIsOver, RunsTell, RunsCount}
@@ -32,5 +32,5 @@ pub one_tell : (self : Runs) (addressed : Addressed) (out : List ℕ) {r r' : To
     RunsTell self addressed out r after → RunsTell self addressed out r' after' → (r ≡ r') × (after ≡ after')
 one_tell self addressed out = one_outcome
 
-pub one_count : (self : Runs) (out : List ℕ) {r r' : Wrote} {after after' : List ℕ} → RunsCount self out r after → RunsCount self out r' after' → (r ≡ r') × (after ≡ after')
+pub one_count : (self : Runs) (out : List ℕ) {r r' : Answer ℕ} {after after' : List ℕ} → RunsCount self out r after → RunsCount self out r' after' → (r ≡ r') × (after ≡ after')
 one_count self out = one_outcome

@@ -1,7 +1,7 @@
 -- What each public function promises: its answer, and what lent memory holds after it.
 use Rattle.std.specs.Prelude.{ℕ, Bool, List, ◌≡◌}
 use Rattle.laws.specs.Gives.{Gives}
-use Rattle.frame.specs.declared.Wrote.{Wrote}
+use Rattle.refusal.specs.Answer.{Answer}
 use Rattle.connectors.specs.declared.Side.{Side}
 use Rattle.telling.specs.declared.Run.{Run}
 use Rattle.runs.specs.Runs.{event_at, run_at, start_runs, valid_runs, are_over, told_at, told_at_leaves, count_both, count_both_leaves}
@@ -28,5 +28,5 @@ RunsIsOver self r = r ≡ are_over self
 abbrev pub RunsTell : Runs → Addressed → List ℕ → ToldAt → List ℕ → Type 0
 RunsTell self addressed out r after = Gives (told_at self addressed out) (told_at_leaves self addressed out) r after
 
-abbrev pub RunsCount : Runs → List ℕ → Wrote → List ℕ → Type 0
+abbrev pub RunsCount : Runs → List ℕ → Answer ℕ → List ℕ → Type 0
 RunsCount self out r after = Gives (count_both self out) (count_both_leaves self out) r after

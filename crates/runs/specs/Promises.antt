@@ -1,10 +1,8 @@
 -- Which port a line names, and what an event makes of the runs of both ports, beside its exact answer: statements only.
-use Rattle.std.specs.Prelude.{ℕ, ◌≤◌, ◌<◌, true, false, List, [], ◌∷◌, ◌↔◌, ◌⊎◌, ◌≢◌, ◌≡◌, length}
+use Rattle.std.specs.Prelude.{ℕ, ◌≤◌, ◌<◌, true, false, List, [], ◌∷◌, ◌↔◌, ◌⊎◌, ◌≢◌, ◌≡◌, length, Err, Ok}
 use Rattle.laws.specs.Over.{over}
 use Rattle.refusal.specs.declared.Refusal.{Refusal}
 use Rattle.refusal.specs.declared.Refusal.TheVariants as refusal
-use Rattle.refusal.specs.declared.Verdict.TheVariants.{Done, Refused}
-use Rattle.frame.specs.declared.Wrote.TheVariants as wrote
 use Rattle.connectors.specs.declared.Side.{Side}
 use Rattle.connectors.specs.declared.Side.TheVariants.{Camera, External}
 use Rattle.connectors.specs.Connectors.{line_at}
@@ -78,29 +76,29 @@ pub record EachCall : Type 0 where
   -- both ports start with the session program's settings and measurement: each is the base's start
   pub start_verdict_lem : (letter : ℕ) → (start_runs letter).verdict ≡ (start_with letter).verdict
   pub start_run : (letter : ℕ) (a : Side) → run_at (start_runs letter).runs a ≡ (start_with letter).run
-  pub start_valid : (letter : ℕ) → (start_runs letter).verdict ≡ Done → valid_runs (start_runs letter).runs ≡ true
-  pub start_none : (letter : ℕ) (x : Refusal) → (start_runs letter).verdict ≡ Refused x → valid_runs (start_runs letter).runs ≡ false
+  pub start_valid : (letter : ℕ) → (start_runs letter).verdict ≡ Ok tt → valid_runs (start_runs letter).runs ≡ true
+  pub start_none : (letter : ℕ) (x : Refusal) → (start_runs letter).verdict ≡ Err x → valid_runs (start_runs letter).runs ≡ false
   -- runs are ours where both are
   pub both_valid : (r : Runs) → (valid_runs r ≡ true) ↔ ((a : Side) → valid_run (run_at r a) ≡ true)
   -- "16 judges the shared settings and the named port": of an event, exactly where the run of its port is none of ours
-  pub tell_16 : (r : Runs) (x : Addressed) (out : List ℕ) → ((told_at r x out).wrote ≡ wrote.Refused refusal.State) ↔ (valid_run (run_at r x.side) ≡ false)
+  pub tell_16 : (r : Runs) (x : Addressed) (out : List ℕ) → ((told_at r x out).wrote ≡ Err refusal.State) ↔ (valid_run (run_at r x.side) ≡ false)
   -- then 2, exactly where the text is longer than the lent memory, with its length
   pub tell_2 : (r : Runs) (x : Addressed) (out : List ℕ) (n : ℕ) →
-      ((told_at r x out).wrote ≡ wrote.Refused (refusal.Room n)) ↔
+      ((told_at r x out).wrote ≡ Err (refusal.Room n)) ↔
       ((valid_run (run_at r x.side) ≡ true) × (length out < length (tell_at r x).text) × (n ≡ length (tell_at r x).text))
   -- a refusal changes nothing, of either port
-  pub tell_same : (r : Runs) (x : Addressed) (out : List ℕ) (y : Refusal) → (told_at r x out).wrote ≡ wrote.Refused y →
+  pub tell_same : (r : Runs) (x : Addressed) (out : List ℕ) (y : Refusal) → (told_at r x out).wrote ≡ Err y →
       ((told_at r x out).runs ≡ r) × (told_at_leaves r x out ≡ out)
-  pub count_same : (r : Runs) (out : List ℕ) (y : Refusal) → count_both r out ≡ wrote.Refused y → count_both_leaves r out ≡ out
+  pub count_same : (r : Runs) (out : List ℕ) (y : Refusal) → count_both r out ≡ Err y → count_both_leaves r out ≡ out
   -- where no case holds, the text is printed
   pub tell_done : (r : Runs) (x : Addressed) (out : List ℕ) → valid_run (run_at r x.side) ≡ true → length (tell_at r x).text ≤ length out →
-      (told_at r x out ≡ record { wrote = wrote.Count (length (tell_at r x).text); runs = (tell_at r x).runs }) ×
+      (told_at r x out ≡ record { wrote = Ok (length (tell_at r x).text); runs = (tell_at r x).runs }) ×
       (told_at_leaves r x out ≡ over out 0 (tell_at r x).text)
-  pub count_16 : (r : Runs) (out : List ℕ) → (count_both r out ≡ wrote.Refused refusal.State) ↔ (valid_runs r ≡ false)
+  pub count_16 : (r : Runs) (out : List ℕ) → (count_both r out ≡ Err refusal.State) ↔ (valid_runs r ≡ false)
   pub count_2 : (r : Runs) (out : List ℕ) (n : ℕ) →
-      (count_both r out ≡ wrote.Refused (refusal.Room n)) ↔ ((valid_runs r ≡ true) × (length out < length (slots_line r.slots)) × (n ≡ length (slots_line r.slots)))
+      (count_both r out ≡ Err (refusal.Room n)) ↔ ((valid_runs r ≡ true) × (length out < length (slots_line r.slots)) × (n ≡ length (slots_line r.slots)))
   pub count_done : (r : Runs) (out : List ℕ) → valid_runs r ≡ true → length (slots_line r.slots) ≤ length out →
-      (count_both r out ≡ wrote.Count (length (slots_line r.slots))) × (count_both_leaves r out ≡ over out 0 (slots_line r.slots))
+      (count_both r out ≡ Ok (length (slots_line r.slots))) × (count_both_leaves r out ≡ over out 0 (slots_line r.slots))
   -- runs of ours stay so, that of the other port too
   pub tell_valid : (r : Runs) (x : Addressed) → valid_runs r ≡ true → valid_runs (tell_at r x).runs ≡ true
   -- no event prints more than 999 slots do

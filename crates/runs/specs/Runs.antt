@@ -1,9 +1,8 @@
 -- The run of a capture on both connectors: which port a line names, and what an event makes of the run of that port.
-use Rattle.std.specs.Prelude.{ℕ, Bool, false, cond, ◌&&◌, List, [], ◌∷◌, eqb, drop}
+use Rattle.std.specs.Prelude.{ℕ, Bool, false, cond, ◌&&◌, List, [], ◌∷◌, eqb, drop, Err}
 use Rattle.laws.specs.Over.{over}
+use Rattle.refusal.specs.Answer.{Answer}
 use Rattle.refusal.specs.declared.Refusal.TheVariants.{State}
-use Rattle.frame.specs.declared.Wrote.{Wrote}
-use Rattle.frame.specs.declared.Wrote.TheVariants as wrote
 use Rattle.bench_lens.specs.Bench.{bench_settings, bench_measurement}
 use Rattle.connectors.specs.declared.Side.{Side}
 use Rattle.connectors.specs.declared.Side.TheVariants.{Camera, External}
@@ -84,8 +83,8 @@ told_at r x out =
 abbrev pub told_at_leaves : Runs → Addressed → List ℕ → List ℕ
 told_at_leaves r x out = told_leaves (run_at r x.side) x.event out
 
-unfoldable pub count_both : Runs → List ℕ → Wrote
-count_both r out = cond (valid_runs r) (printed_in (slots_line r.slots) out) (wrote.Refused State)
+unfoldable pub count_both : Runs → List ℕ → Answer ℕ
+count_both r out = cond (valid_runs r) (printed_in (slots_line r.slots) out) (Err State)
 
 unfoldable pub count_both_leaves : Runs → List ℕ → List ℕ
 count_both_leaves r out = cond (valid_runs r) (over out 0 (slots_line r.slots)) out

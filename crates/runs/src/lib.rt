@@ -9,9 +9,8 @@ ghost use Rattle.runs.specs.Clauses.{EventAt, RunsRunAt, RunsStart, RunsIsValid,
 
 use capture::Event;
 use connectors::{Connectors, Lines, Side};
-use frame::Wrote;
 use line::Line;
-use refusal::{Refusal, Verdict};
+use refusal::Refusal;
 use telling::Run;
 
 // The event that a line tells, and the port that it is for.
@@ -35,27 +34,27 @@ pub struct Runs {
 // What a start hands back.
 #[derive(Clone, Copy)]
 pub struct BegunBoth {
-    pub verdict: Verdict,
+    pub verdict: Result<(), Refusal>,
     pub runs: Runs,
 }
 
 // What an event makes of the runs: how many bytes it printed, or the refusal that left all as it was.
 #[derive(Clone, Copy)]
 pub struct ToldAt {
-    pub wrote: Wrote,
+    pub wrote: Result<usize, Refusal>,
     pub runs: Runs,
 }
 
 // ---- the port of a line
 
-// Whether a line begins with this number and a space.
+// Whether a line begins with this number and a space. (As one `&&` it did not prove.)
 fn is_numbered(number: u8, line: &[u8]) -> bool
     ensures { result ≡ is_numbered number line.now }
 {
     if line.len() < 2 {
         return false;
     }
-    (line[0] == number) & (line[1] == b' ')
+    line[0] == number && line[1] == b' '
 }
 
 // The event that a text tells, for this port.
@@ -69,13 +68,14 @@ fn event_on(side: Side, text: &[u8]) -> Addressed
 }
 
 // The event that a line tells, and its port: where ports may be named, by the number before it; else the camera's.
+#[tactic(auto, using(crate::proofs::Laws::numbered_two, crate::proofs::Laws::rest_on), unfolding(crate::specs::Runs::event_at))]
 pub fn event_at(ports: bool, line: &[u8]) -> Addressed
     ensures { EventAt ports line.now result }
 {
-    if ports & is_numbered(b'0', line) {
+    if ports && is_numbered(b'0', line) {
         return event_on(Side::Camera, &line[2..]);
     }
-    if ports & is_numbered(b'1', line) {
+    if ports && is_numbered(b'1', line) {
         return event_on(Side::External, &line[2..]);
     }
     event_on(Side::Camera, line)
@@ -87,34 +87,29 @@ fn line_at(lines: Lines, side: Side) -> Line
     ensures { result ≡ line_at lines side }
 {
     match side {
-        Side::Camera => {
-            let line = lines.camera;
-            line
-        }
-        Side::External => {
-            let line = lines.external;
-            line
-        }
+        Side::Camera => lines.camera,
+        Side::External => lines.external,
     }
 }
 
 fn with_line(lines: Lines, side: Side, line: Line) -> Lines
     ensures { result ≡ with_line lines side line }
 {
-    let mut after = lines;
     match side {
-        Side::Camera => {
-            after.camera = line;
-        }
-        Side::External => {
-            after.external = line;
-        }
+        Side::Camera => Lines {
+            camera: line,
+            ..lines
+        },
+        Side::External => Lines {
+            external: line,
+            ..lines
+        },
     }
-    after
 }
 
 impl Runs {
     // The session program's lens on both ports, started with this start-up letter; a refused start leaves runs that are none.
+    #[tactic(auto, unfolding(crate::specs::Runs::start_runs))]
     pub fn start(letter: u8) -> BegunBoth
         ensures { RunsStart letter result }
     {
@@ -129,14 +124,11 @@ impl Runs {
             measurement,
             measurement,
         );
-        let verdict = started.verdict;
-        let connectors = started.connectors;
-        let lines = started.lines;
         BegunBoth {
-            verdict,
+            verdict: started.verdict,
             runs: Runs {
-                connectors,
-                lines,
+                connectors: started.connectors,
+                lines: started.lines,
                 slots: 0,
                 stopped: false,
             },
@@ -147,11 +139,9 @@ impl Runs {
     pub fn run_at(self, side: Side) -> Run
         ensures { RunsRunAt self side result }
     {
-        let connectors = self.connectors;
-        let lines = self.lines;
         Run {
-            port: connectors.port_at(side),
-            line: line_at(lines, side),
+            port: self.connectors.port_at(side),
+            line: line_at(self.lines, side),
             slots: self.slots,
             stopped: self.stopped,
         }
@@ -161,56 +151,48 @@ impl Runs {
     fn with_run(self, side: Side, run: Run) -> Runs
         ensures { result ≡ with_run self side run }
     {
-        let connectors = self.connectors;
-        let lines = self.lines;
-        let port = run.port;
-        let line = run.line;
         Runs {
-            connectors: connectors.with_port(side, port),
-            lines: with_line(lines, side, line),
+            connectors: self.connectors.with_port(side, run.port),
+            lines: with_line(self.lines, side, run.line),
             slots: run.slots,
             stopped: run.stopped,
         }
     }
 
     // Whether handed-in runs are ours (16): the run of each port.
+    #[tactic(auto, unfolding(crate::specs::Runs::valid_runs))]
     pub fn is_valid(self) -> bool
         ensures { RunsIsValid self result }
     {
-        let camera = self.run_at(Side::Camera);
-        let external = self.run_at(Side::External);
-        camera.is_valid() & external.is_valid()
+        self.run_at(Side::Camera).is_valid() && self.run_at(Side::External).is_valid()
     }
 
     // Whether the run has ended, for both ports: by a line of other form, or by its last slot.
     pub fn is_over(self) -> bool
         ensures { RunsIsOver self result }
     {
-        self.stopped | (telling::LAST_SLOT <= self.slots)
+        self.stopped || telling::LAST_SLOT <= self.slots
     }
 
     // Runs an event on its port, and prints what it told: 16, then 2. After the run's end it does nothing.
+    #[tactic(auto, unfolding(crate::specs::Runs::told_at))]
     pub fn tell(self, addressed: Addressed, out: &mut [u8]) -> ToldAt
         ensures { RunsTell self addressed out.old result out.new }
     {
-        let side = addressed.side;
-        let event = addressed.event;
-        let run = self.run_at(side);
-        let told = run.tell(event, out);
-        let wrote = told.wrote;
-        let after = told.run;
+        let told = self.run_at(addressed.side).tell(addressed.event, out);
         ToldAt {
-            wrote,
-            runs: self.with_run(side, after),
+            wrote: told.wrote,
+            runs: self.with_run(addressed.side, told.run),
         }
     }
 
     // The last line: the slots run, of both ports.
-    pub fn count(self, out: &mut [u8]) -> Wrote
+    #[tactic(auto, unfolding(crate::specs::Runs::count_both, crate::specs::Runs::count_both_leaves))]
+    pub fn count(self, out: &mut [u8]) -> Result<usize, Refusal>
         ensures { RunsCount self out.old result out.new }
     {
         if !self.is_valid() {
-            return Wrote::Refused(Refusal::State);
+            return Err(Refusal::State);
         }
         printed::put_count(self.slots, out)
     }

@@ -7,21 +7,20 @@ ghost use Rattle.sign.specs.Clauses.{IsBelow, SizeOf, SignedOf};
 pub fn is_below(e: i32) -> bool
     ensures { IsBelow e result }
 {
-    e < 0
+    e.is_negative()
 }
 
-// How far the number is from zero. (In 64 bits every one of 32 has an opposite.)
+// How far the number is from zero.
 pub fn size_of(e: i32) -> u32
     ensures { SizeOf e result }
 {
-    let w = e as i64;
-    if w < 0 { (0 - w) as u32 } else { w as u32 }
+    e.unsigned_abs()
 }
 
 // The number with this sign and size; minus zero is zero.
 pub fn signed_of(below: bool, n: u16) -> i32
     ensures { SignedOf below n result }
 {
-    let w = n as i32;
-    if below { 0 - w } else { w }
+    let size = i32::from(n);
+    if below { -size } else { size }
 }

@@ -1,7 +1,7 @@
 -- The starred figures, computed by the checker. Assumes nothing.
 use mathlib.Core.Path.{refl}
-use Rattle.refusal.specs.Answer.{unless, and_then}
 use Rattle.laws.specs.Every.{every}
+use Rattle.refusal.specs.Answer.{and_then, unless}
 use Rattle.digits.specs.Digits.{digits, value, read_digits, read_field}
 use Rattle.codec.specs.Codec.{failing, first, field_says, passed, both, mapped, chained, text_ok, read_tagged}
 use Rattle.codec.specs.Places.{field_of}

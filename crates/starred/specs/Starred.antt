@@ -1,7 +1,7 @@
 -- Document 01's bench figures marked *: one table, one statement; the figure that [5] amends; those of [6]'s old line; [7]'s messages of R; and the
 -- refusal numbers of R and the session's settings, each made wrong in one way.
-use Rattle.std.specs.Prelude.{ℕ, true, false, List, [], ◌∷◌, ◌++◌, ◌≡◌, ℤ, pos, negsuc, take, drop, replicate}
-use Rattle.refusal.specs.Answer.{Answer, accepted, refused}
+use Rattle.std.specs.Prelude.{ℕ, true, false, List, [], ◌∷◌, ◌++◌, ◌≡◌, ℤ, pos, negsuc, take, drop, replicate, Err, Ok}
+use Rattle.refusal.specs.Answer.{Answer}
 use Rattle.refusal.specs.Refusal.{number_of, value_of}
 use Rattle.refusal.specs.declared.Refusal.TheVariants.{Field, Length, Checksum, Contents, Setting, Lost}
 use Rattle.codec.specs.Codec.{got, wrong}
@@ -99,10 +99,10 @@ pub record Starred : Type 0 where
   pub pupil_minus_999 : pupil (negsuc 998) ≡ 0x6F ∷ 0x67 ∷ []
   pub zoom_1000 : zoom 1000 ≡ 0x4F ∷ 0x68 ∷ []
   pub stop_250_tenth_9 : packed_pair (like_r 798 250 9 (pos 23) 0) ≡ 0xFA ∷ 0xC9 ∷ []
-  pub mm_1000 : conversion 1 (pos 1000) 77 73 ≡ accepted (pos 394)
-  pub mm_9999999 : conversion 1 (pos 9999999) 77 73 ≡ accepted (pos 3937007)
-  pub inch_25 : conversion 1 (pos 25) 73 77 ≡ accepted (pos 64)
-  pub inch_minus_25 : conversion 10 (negsuc 24) 73 77 ≡ accepted (negsuc 63)
+  pub mm_1000 : conversion 1 (pos 1000) 77 73 ≡ Ok (pos 394)
+  pub mm_9999999 : conversion 1 (pos 9999999) 77 73 ≡ Ok (pos 3937007)
+  pub inch_25 : conversion 1 (pos 25) 73 77 ≡ Ok (pos 64)
+  pub inch_minus_25 : conversion 10 (negsuc 24) 73 77 ≡ Ok (negsuc 63)
 
 -- "60 40 refused, field 10", as [5] amends it: 0 is sent as 40 40 and as E+000, read of these and of 60 40 and E-000, and not of what stands next to them
 pub record Amended : Type 0 where
@@ -129,30 +129,30 @@ pub record OldLines : Type 0 where
   pub without_z : old_zoom.parse (0x5A ∷ 0x30 ∷ 0x2E ∷ 0x35 ∷ 0x37 ∷ []) ≡ wrong 11
   -- whole lines: R at 0.57 forward, with -000 forward, and at 0.575 back
   pub forwards : forward (take 59 text_r ++ 0x7A ∷ 0x30 ∷ 0x2E ∷ 0x35 ∷ 0x37 ∷ 0x0A ∷ 0x0D ∷ []) record_r.serial ≡
-      accepted (take 59 text_r ++ 0x7A ∷ 0x30 ∷ 0x35 ∷ 0x37 ∷ 0x30 ∷ (drop 64 text_r ++ 0x0A ∷ 0x0D ∷ []))
+      Ok (take 59 text_r ++ 0x7A ∷ 0x30 ∷ 0x35 ∷ 0x37 ∷ 0x30 ∷ (drop 64 text_r ++ 0x0A ∷ 0x0D ∷ []))
   pub forwards_minus : forward (take 54 text_r ++ minus_text ++ 0x7A ∷ 0x30 ∷ 0x2E ∷ 0x35 ∷ 0x37 ∷ 0x0A ∷ 0x0D ∷ []) record_r.serial ≡
-      accepted (take 54 text_r ++ plus_text ++ 0x7A ∷ 0x30 ∷ 0x35 ∷ 0x37 ∷ 0x30 ∷ (drop 64 text_r ++ 0x0A ∷ 0x0D ∷ []))
-  pub backs_lost : back (take 59 text_r ++ 0x7A ∷ 0x30 ∷ 0x35 ∷ 0x37 ∷ 0x35 ∷ (drop 64 text_r ++ 0x0A ∷ 0x0D ∷ [])) ≡ refused Lost
+      Ok (take 54 text_r ++ plus_text ++ 0x7A ∷ 0x30 ∷ 0x35 ∷ 0x37 ∷ 0x30 ∷ (drop 64 text_r ++ 0x0A ∷ 0x0D ∷ []))
+  pub backs_lost : back (take 59 text_r ++ 0x7A ∷ 0x30 ∷ 0x35 ∷ 0x37 ∷ 0x35 ∷ (drop 64 text_r ++ 0x0A ∷ 0x0D ∷ [])) ≡ Err Lost
   -- firmware 1.22: S and x.xx
   pub r_of_122 : form122.print (like_r 798 56 5 (pos 23) 570) ≡ take 59 text_r ++ 0x7A ∷ 0x30 ∷ 0x2E ∷ 0x35 ∷ 0x37 ∷ drop 64 text_r
 
 -- [7]: R from packed to text, plain, with checksum, and with 60 40 and 70 40 for its pupil; with the text's checksum; under the other setting
 pub record Turns : Type 0 where
-  pub r_plain : turned false (packed_r ++ 0x0A ∷ 0x0D ∷ []) ≡ accepted (text_r ++ 0x0A ∷ 0x0D ∷ [])
-  pub r_summed : turned true (packed_r ++ 0x4D ∷ 0x48 ∷ 0x0A ∷ 0x0D ∷ []) ≡ accepted (text_r ++ 0x49 ∷ 0x46 ∷ 0x0A ∷ 0x0D ∷ [])
+  pub r_plain : turned false (packed_r ++ 0x0A ∷ 0x0D ∷ []) ≡ Ok (text_r ++ 0x0A ∷ 0x0D ∷ [])
+  pub r_summed : turned true (packed_r ++ 0x4D ∷ 0x48 ∷ 0x0A ∷ 0x0D ∷ []) ≡ Ok (text_r ++ 0x49 ∷ 0x46 ∷ 0x0A ∷ 0x0D ∷ [])
   pub minus_zero : turned false (take 25 packed_r ++ 0x60 ∷ 0x40 ∷ (drop 27 packed_r ++ 0x0A ∷ 0x0D ∷ [])) ≡
-      accepted (take 54 text_r ++ plus_text ++ (drop 59 text_r ++ 0x0A ∷ 0x0D ∷ []))
-  pub wrong_pupil : turned false (take 25 packed_r ++ 0x70 ∷ 0x40 ∷ (drop 27 packed_r ++ 0x0A ∷ 0x0D ∷ [])) ≡ refused (Contents 10)
-  pub text_sum : turned true (packed_r ++ 0x49 ∷ 0x46 ∷ 0x0A ∷ 0x0D ∷ []) ≡ refused Checksum
-  pub plain_for_summed : turned true (packed_r ++ 0x0A ∷ 0x0D ∷ []) ≡ refused (Length 41)
-  pub summed_for_plain : turned false (packed_r ++ 0x4D ∷ 0x48 ∷ 0x0A ∷ 0x0D ∷ []) ≡ refused (Length 43)
+      Ok (take 54 text_r ++ plus_text ++ (drop 59 text_r ++ 0x0A ∷ 0x0D ∷ []))
+  pub wrong_pupil : turned false (take 25 packed_r ++ 0x70 ∷ 0x40 ∷ (drop 27 packed_r ++ 0x0A ∷ 0x0D ∷ [])) ≡ Err (Contents 10)
+  pub text_sum : turned true (packed_r ++ 0x49 ∷ 0x46 ∷ 0x0A ∷ 0x0D ∷ []) ≡ Err Checksum
+  pub plain_for_summed : turned true (packed_r ++ 0x0A ∷ 0x0D ∷ []) ≡ Err (Length 41)
+  pub summed_for_plain : turned false (packed_r ++ 0x4D ∷ 0x48 ∷ 0x0A ∷ 0x0D ∷ []) ≡ Err (Length 43)
   -- what its bytes say
   pub r_said : packed_record packed_r ≡ record_r
 
 -- the number, and what is also returned
 abbrev pub told_with : {A : Type 0} → Answer A → ℕ × ℕ
-told_with (accepted a) = (0, 0)
-told_with (refused x) = (number_of x, value_of x)
+told_with (Ok a) = (0, 0)
+told_with (Err x) = (number_of x, value_of x)
 
 -- "Refusal numbers", those of a writer, a reader and [6]; a wrong one that is told for 7, 9, 10 or 16 is refused where it is printed or handed over
 pub record Numbered : Type 0 where

@@ -6,7 +6,6 @@ ghost use Rattle.state.specs.State.{valid_modes};
 ghost use Rattle.state.specs.Clauses.{ValidMessage, ValidSource};
 
 use fixed::Settings;
-use line::Line;
 use units::Measurement;
 
 // The bytes that the message under way sits in.
@@ -19,7 +18,7 @@ pub enum State {
 }
 
 // Continuous sending.
-#[derive(Clone, Copy)]
+#[derive(Clone, Copy, PartialEq, Eq)]
 pub enum Sending {
     Off,
     Text,
@@ -27,13 +26,14 @@ pub enum Sending {
 }
 
 // What was sent last, or is under way.
-#[derive(Clone, Copy)]
+#[derive(Clone, Copy, PartialEq, Eq)]
 pub enum Last {
     Neither,
     Record,
     Reply,
 }
 
+// (Film, unit and rates are bytes, since any other byte is refused by 16: valid_modes.)
 #[derive(Clone, Copy)]
 pub struct Modes {
     pub state: State,
@@ -58,19 +58,12 @@ pub struct Source {
 }
 
 // The message under way: its bytes, how many they are, and the place of the next one to be sent. None
-// is under way where the place is the length.
+// is under way where the place is the length. (Its buffer has a count of its own, since one past the buffer is refused by 16: valid_message.)
 #[derive(Clone, Copy)]
 pub struct Message {
     pub bytes: [u8; MESSAGE_LENGTH],
     pub len: usize,
     pub at: usize,
-}
-
-// The waiting place: whether a command waits, and the line as it was taken.
-#[derive(Clone, Copy)]
-pub struct Waiting {
-    pub some: bool,
-    pub line: Line,
 }
 
 fn valid_modes(m: Modes) -> bool
@@ -90,14 +83,7 @@ pub fn valid_message(m: Message) -> bool
 pub fn valid_source(s: Source) -> bool
     ensures { ValidSource s result }
 {
-    let measurement = s.measurement;
-    if !refusal::is_done(units::check_measurement(measurement)) {
-        return false;
-    }
-    let modes = s.modes;
-    if !valid_modes(modes) {
-        return false;
-    }
-    let settings = s.settings;
-    fixed::are_settings(settings)
+    units::check_measurement(s.measurement).is_ok()
+        && valid_modes(s.modes)
+        && fixed::are_settings(s.settings)
 }

@@ -9,11 +9,10 @@ use borrow.Author.Tests.{leb-true, le-leb}
 use lib.Dec.{leb, eqb}
 use lib.ListN.{length, take, get_or}
 use lib.Seq.{take-take, take_all}
+use Rattle.std.specs.Prelude.{Option, Some}
 use Rattle.laws.proofs.MemberLaws.{the_only}
 use Rattle.laws.proofs.Tests.{never}
 use Rattle.digits.specs.Digits.{only}
-use Rattle.digits.specs.declared.Field.{Field}
-use Rattle.digits.specs.declared.Field.TheVariants.{Value}
 use Rattle.codec.specs.Codec.{got, wrong, spellings, failing, field_says}
 use Rattle.codec.specs.Places.{field_of, FirstWrong}
 use Rattle.codec.proofs.Exact.{holds, fine, first_zero, zero_first, field_is}
@@ -60,7 +59,7 @@ pair_within s (suc zero) = ap stop_share (sym (take-take 2 2 s (omega arith)))
 pair_within s (suc (suc zero)) = ap tenth_share (sym (take-take 2 2 s (omega arith)))
 pair_within s (suc (suc (suc j))) = refl
 
-said : (i : ℕ) {f : Field} {n j : ℕ} → f ≡ Value n → field_says i f ≡ wrong j → ⊥
+said : (i : ℕ) {f : Option ℕ} {n j : ℕ} → f ≡ Some n → field_says i f ≡ wrong j → ⊥
 unfolding field_says
 said i {f} {n} {j} v e = let z : got n ≡ wrong j = ap (field_says i) (sym v) ∙ e in never (cc)
 
@@ -88,7 +87,7 @@ module _ (s : List ℕ) (l : length s ≡ 2) (i : ℕ) where
     none (suc j) h = absurd (omega arith)
 
   -- the stop is right: the rest of the second byte
-  module _ (n : ℕ) (f : read_stop x y ≡ Value n) where
+  module _ (n : ℕ) (f : read_stop x y ≡ Some n) where
     stop_right : (j : ℕ) → j < 2 → field_of pair_places j s ≡ field_of pair_places j (stop_pair n 0)
     unfolding field_of
     stop_right zero h = refl

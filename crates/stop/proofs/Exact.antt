@@ -8,11 +8,10 @@ use native.Mathlib.Omega.{arith}
 use borrow.Author.Tests.{ltb-true, ltb-false, leb-true, eqb-true, lt-ltb, le-ltb, le-leb, eq-eqb, ne_eqb}
 use lib.Dec.{ltb, leb, eqb}
 use lib.ListN.{length, take, get_or, length-take}
+use Rattle.std.specs.Prelude.{None, Option, Some}
 use Rattle.laws.proofs.Tests.{and_left, and_right, cond_no, told, never}
 use Rattle.laws.proofs.ListLaws.{two_is}
 use Rattle.digits.specs.Digits.{digits, only, decimal, read_decimal}
-use Rattle.digits.specs.declared.Field.{Field}
-use Rattle.digits.specs.declared.Field.TheVariants.{Value, Wrong}
 use Rattle.digits.proofs.Laws.{read_digits_lem, digits_read}
 use Rattle.codec.specs.Codec.{got, failing, both, field_says}
 use Rattle.codec.proofs.Exact.{Exact, holds, fine, first_zero, zero_first, both_is, field_is}
@@ -41,7 +40,7 @@ pub stop_top : (s : ℕ) → stop_ok s ≡ true → s ≤ 250
 stop_top s h =
     told (ltb s 100) (λ y. omega (arith, ltb-true s 100 y)) (λ n. (stop_high s h (ltb-false _ _ n)).1)
 
-only_is : (t : Bool) (a n : ℕ) → only t a ≡ Value n → (t ≡ true) × (a ≡ n)
+only_is : (t : Bool) (a n : ℕ) → only t a ≡ Some n → (t ≡ true) × (a ≡ n)
 only_is true a n e = (refl, cc)
 only_is false a n e = never (cc)
 
@@ -68,7 +67,7 @@ stop_long s =
 low_exact : Exact (pointed 3 1 99)
 low_exact = pointed_exact 2 1 99 (omega arith) (omega arith)
 
-low_back : (s : ℕ) → s < 100 → read_stop_text (pointed_text 1 s) ≡ Value s
+low_back : (s : ℕ) → s < 100 → read_stop_text (pointed_text 1 s) ≡ Some s
 unfolding read_stop_text digits
 low_back s h =
     field_is 3 (read_pointed 99 (pointed_text 1 s)) s
@@ -76,7 +75,7 @@ low_back s h =
     ∙ ap (pointed 3 1 99).parse (sym (pointed_print 3 1 99 s))
     ∙ low_exact.back s (pointed_lowest 3 1 99 s ∙ fine (leb s 99) 3 (le-leb s 99 (omega arith))))
 
-high_back : (s : ℕ) → s % 10 ≡ 0 → 100 ≤ s → s ≤ 250 → read_stop_text (decimal 2 (s / 10) ++ (point ∷ [])) ≡ Value s
+high_back : (s : ℕ) → s % 10 ≡ 0 → 100 ≤ s → s ≤ 250 → read_stop_text (decimal 2 (s / 10) ++ (point ∷ [])) ≡ Some s
 unfolding read_stop_text read_tens digits
 high_back s h lo hi =
     let e : s / 10 * 10 ≡ s = omega arith in
@@ -84,7 +83,7 @@ high_back s h lo hi =
     ∙ ap read_tens (read_digits_lem 10 48 (omega arith) 2 (s / 10) 25 (omega arith) (omega arith) (omega arith))
     ∙ rw (le-leb 10 (s / 10) (omega arith), e)
 
-stop_back : (s : ℕ) → stop_ok s ≡ true → read_stop_text (stop_text s) ≡ Value s
+stop_back : (s : ℕ) → stop_ok s ≡ true → read_stop_text (stop_text s) ≡ Some s
 stop_back s h =
     told (ltb s 100)
     (λ y. ap read_stop_text (low_text s (ltb-true _ _ y)) ∙ low_back s (ltb-true _ _ y))
@@ -93,12 +92,12 @@ stop_back s h =
     let k = stop_high s h lo in
     ap read_stop_text (high_text s lo) ∙ high_back s k.0 lo k.1)
 
-tens_is : (f : Field) (n : ℕ) → read_tens f ≡ Value n → (m : ℕ) × (f ≡ Value m) × (10 ≤ m) × (m * 10 ≡ n)
+tens_is : (f : Option ℕ) (n : ℕ) → read_tens f ≡ Some n → (m : ℕ) × (f ≡ Some m) × (10 ≤ m) × (m * 10 ≡ n)
 unfolding read_tens
-tens_is (Value m) n e =
+tens_is (Some m) n e =
     let k = only_is (leb 10 m) (m * 10) n e in
     (m, refl, leb-true _ _ k.0, k.1)
-tens_is Wrong n e = never (cc)
+tens_is None n e = never (cc)
 
 three_is : (s : List ℕ) → length s ≡ 3 → s ≡ take 2 s ++ (get_or s 2 0 ∷ [])
 three_is [] l = absurd (omega arith)
@@ -107,14 +106,14 @@ three_is (a ∷ b ∷ []) l = absurd (omega arith)
 three_is (a ∷ b ∷ c ∷ []) l = refl
 three_is (a ∷ b ∷ c ∷ d ∷ s) l = absurd (omega arith)
 
-low_sound : (s : List ℕ) (n : ℕ) → length s ≡ 3 → read_pointed 99 s ≡ Value n → (stop_ok n ≡ true) × (s ≡ stop_text n)
+low_sound : (s : List ℕ) (n : ℕ) → length s ≡ 3 → read_pointed 99 s ≡ Some n → (stop_ok n ≡ true) × (s ≡ stop_text n)
 unfolding field_says
 low_sound s n l e =
     let p = low_exact.sound s n (l ∙ sym (pointed_width 3 1 99)) (sym (pointed_read 3 1 99 s l) ∙ ap (field_says 3) e) in
     let k = leb-true n 99 (holds _ 2 (sym (pointed_lowest 3 1 99 n) ∙ p.0)) in
     (stop_low n (omega arith), pointed_spelt 3 1 99 n p.1 ∙ sym (low_text n (omega arith)))
 
-high_sound : (s : List ℕ) (n : ℕ) → length s ≡ 3 → get_or s 2 0 ≡ point → read_tens (read_decimal 25 (take 2 s)) ≡ Value n → (stop_ok n ≡ true) × (s ≡ stop_text n)
+high_sound : (s : List ℕ) (n : ℕ) → length s ≡ 3 → get_or s 2 0 ≡ point → read_tens (read_decimal 25 (take 2 s)) ≡ Some n → (stop_ok n ≡ true) × (s ≡ stop_text n)
 high_sound s n l y e =
     let t = tens_is (read_decimal 25 (take 2 s)) n e in
     let m = t.0 in
@@ -124,7 +123,7 @@ high_sound s n l y e =
     let g : m ≡ n / 10 = omega arith in
     (stop_ten n (omega arith) (omega arith), three_is s l ∙ ap₂ (λ (a : List ℕ) (b : ℕ). a ++ (b ∷ [])) (r.1 ∙ ap₂ decimal two g) y ∙ sym (high_text n (omega arith)))
 
-stop_sound : (s : List ℕ) (n : ℕ) → length s ≡ 3 → read_stop_text s ≡ Value n → (stop_ok n ≡ true) × (s ≡ stop_text n)
+stop_sound : (s : List ℕ) (n : ℕ) → length s ≡ 3 → read_stop_text s ≡ Some n → (stop_ok n ≡ true) × (s ≡ stop_text n)
 unfolding read_stop_text
 stop_sound s n l e =
     told (eqb (get_or s 1 0) point)
@@ -132,7 +131,7 @@ stop_sound s n l e =
     (λ w.
     told (eqb (get_or s 2 0) point)
     (λ y. high_sound s n l (eqb-true _ _ y) (rw (eq-eqb (length s) 3 l, w, y) at e))
-    (λ v. let z : Wrong ≡ Value n = rw (eq-eqb (length s) 3 l, w, v) at e in never (cc)))
+    (λ v. let z : None ≡ Some n = rw (eq-eqb (length s) 3 l, w, v) at e in never (cc)))
 
 pub stop_exact : Exact stop
 unfolding stop field_says
@@ -157,26 +156,26 @@ module _ (s t : ℕ) (h : stop_ok s ≡ true) (k : t ≤ 9) where
   abbrev second : ℕ
   second = 128 + 64 * (s / 128 % 2) + t % 16
 
-  pub back_stop : read_stop (128 + s % 128) second ≡ Value s
+  pub back_stop : read_stop (128 + s % 128) second ≡ Some s
   unfolding read_stop
   back_stop =
       let top = stop_top s h in
       let e : stop_in (128 + s % 128) second ≡ s = omega arith in
       rw (eq-eqb ((128 + s % 128) / 128) 1 (omega arith), e, h)
 
-  pub back_tenth : read_tenth second ≡ Value t
+  pub back_tenth : read_tenth second ≡ Some t
   unfolding read_tenth
   back_tenth =
       let e : second % 64 ≡ t = omega arith in
       rw (eq-eqb (second / 128) 1 (omega arith), e, le-leb t 9 k)
 
-pub stop_found : (x y n : ℕ) → read_stop x y ≡ Value n → (x / 128 ≡ 1) × (stop_ok n ≡ true) × (stop_in x y ≡ n)
+pub stop_found : (x y n : ℕ) → read_stop x y ≡ Some n → (x / 128 ≡ 1) × (stop_ok n ≡ true) × (stop_in x y ≡ n)
 unfolding read_stop
 stop_found x y n e =
     let u = only_is (eqb (x / 128) 1 && stop_ok (stop_in x y)) (stop_in x y) n e in
     (eqb-true _ _ (and_left (eqb (x / 128) 1) (stop_ok (stop_in x y)) u.0), ap stop_ok (sym u.1) ∙ and_right (eqb (x / 128) 1) (stop_ok (stop_in x y)) u.0, u.1)
 
-tenth_found : (y n : ℕ) → read_tenth y ≡ Value n → (y / 128 ≡ 1) × (n ≤ 9) × (y % 64 ≡ n)
+tenth_found : (y n : ℕ) → read_tenth y ≡ Some n → (y / 128 ≡ 1) × (n ≤ 9) × (y % 64 ≡ n)
 unfolding read_tenth
 tenth_found y n e =
     let u = only_is (eqb (y / 128) 1 && leb (y % 64) 9) (y % 64) n e in

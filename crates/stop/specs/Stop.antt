@@ -1,8 +1,6 @@
 -- The ring stop (field 3, in tenths) and the tenth (field 4): the stop as three characters of text, and both as the shared pair of the packed form.
-use Rattle.std.specs.Prelude.{ℕ, ◌+◌, ◌*◌, ◌/◌, ◌%◌, List, [], ◌∷◌, ◌++◌, Bool, ◌&&◌, ◌||◌, cond, length, take, get_or, ltb, leb, eqb}
+use Rattle.std.specs.Prelude.{ℕ, ◌+◌, ◌*◌, ◌/◌, ◌%◌, List, [], ◌∷◌, ◌++◌, Bool, ◌&&◌, ◌||◌, cond, length, take, get_or, ltb, leb, eqb, None, Option, Some}
 use Rattle.digits.specs.Digits.{only, decimal, read_decimal}
-use Rattle.digits.specs.declared.Field.{Field}
-use Rattle.digits.specs.declared.Field.TheVariants.{Value, Wrong}
 use Rattle.codec.specs.Codec.{Codec, failing, first, both, field_says}
 use Rattle.pointed.specs.Pointed.{point, pointed_text, read_pointed}
 
@@ -17,16 +15,16 @@ unfoldable pub stop_text : ℕ → List ℕ
 stop_text s = cond (ltb s 100) (pointed_text 1 s) (decimal 2 (s / 10) ++ (point ∷ []))
 
 -- two digits that say ten times what stands before the point: 10 to 25
-unfoldable pub read_tens : Field → Field
-read_tens (Value n) = only (leb 10 n) (n * 10)
-read_tens Wrong = Wrong
+unfoldable pub read_tens : Option ℕ → Option ℕ
+read_tens (Some n) = only (leb 10 n) (n * 10)
+read_tens None = None
 
 -- the form is told by where the point stands
-unfoldable pub read_stop_text : List ℕ → Field
+unfoldable pub read_stop_text : List ℕ → Option ℕ
 read_stop_text s =
     cond (eqb (length s) 3)
-    (cond (eqb (get_or s 1 0) point) (read_pointed 99 s) (cond (eqb (get_or s 2 0) point) (read_tens (read_decimal 25 (take 2 s))) Wrong))
-    Wrong
+    (cond (eqb (get_or s 1 0) point) (read_pointed 99 s) (cond (eqb (get_or s 2 0) point) (read_tens (read_decimal 25 (take 2 s))) None))
+    None
 
 unfoldable pub stop : Codec ℕ
 stop = record { width = 3; lowest = λ s. failing (stop_ok s) 3; print = stop_text; also = λ s. []; parse = λ s. field_says 3 (read_stop_text s) }
@@ -42,11 +40,11 @@ abbrev pub stop_in : ℕ → ℕ → ℕ
 stop_in x y = x % 128 + 128 * (y / 64 % 2)
 
 -- the top bit of the first byte, and the stop's range
-unfoldable pub read_stop : ℕ → ℕ → Field
+unfoldable pub read_stop : ℕ → ℕ → Option ℕ
 read_stop x y = only (eqb (x / 128) 1 && stop_ok (stop_in x y)) (stop_in x y)
 
 -- the rest of the second byte
-unfoldable pub read_tenth : ℕ → Field
+unfoldable pub read_tenth : ℕ → Option ℕ
 read_tenth y = only (eqb (y / 128) 1 && leb (y % 64) 9) (y % 64)
 
 unfoldable pub pair : Codec (ℕ × ℕ)

@@ -4,8 +4,6 @@
 
 ghost use Rattle.stop.specs.Clauses.{StopOk, PutStopText, ReadStopText, PutStopPair, ReadStop, ReadTenth};
 
-use digits::Field;
-
 // Whether a stop may be sent: 0..99, or a multiple of 10 in 100..250. Below 251, 205 / 2048 serves for a tenth.
 pub fn stop_ok(stop: u32) -> bool
     ensures { StopOk stop result }
@@ -32,25 +30,23 @@ pub fn put_stop_text(out: &mut [u8], at: usize, stop: u32)
 }
 
 // Reads the three characters of a stop; where the point stands tells the form.
-pub fn read_stop_text(s: &[u8]) -> Field
+pub fn read_stop_text(s: &[u8]) -> Option<u32>
     ensures { ReadStopText s.now result }
 {
     if s.len() != 3 {
-        return Field::Wrong;
+        return None;
     }
     if s[1] == b'.' {
         return pointed::read_pointed(s, 99);
     }
     if s[2] != b'.' {
-        return Field::Wrong;
+        return None;
     }
-    let Field::Value(n) = digits::read_decimal(&s[..2], 25) else {
-        return Field::Wrong;
-    };
+    let n = digits::read_decimal(&s[..2], 25)?;
     if n < 10 {
-        return Field::Wrong;
+        return None;
     }
-    Field::Value(n * 10)
+    Some(n * 10)
 }
 
 // Writes the shared pair.
@@ -63,32 +59,32 @@ pub fn put_stop_pair(out: &mut [u8], at: usize, stop: u32, tenth: u32)
 }
 
 // Reads the stop of a shared pair.
-pub fn read_stop(a: u8, b: u8) -> Field
+pub fn read_stop(a: u8, b: u8) -> Option<u32>
     ensures { ReadStop a b result }
 {
-    let x = a as u32;
-    let y = b as u32;
+    let x = u32::from(a);
+    let y = u32::from(b);
     if x / 128 != 1 {
-        return Field::Wrong;
+        return None;
     }
     let stop = x % 128 + 128 * (y / 64 % 2);
     if !stop_ok(stop) {
-        return Field::Wrong;
+        return None;
     }
-    Field::Value(stop)
+    Some(stop)
 }
 
 // Reads the tenth of a shared pair from its second byte.
-pub fn read_tenth(b: u8) -> Field
+pub fn read_tenth(b: u8) -> Option<u32>
     ensures { ReadTenth b result }
 {
-    let y = b as u32;
+    let y = u32::from(b);
     if y / 128 != 1 {
-        return Field::Wrong;
+        return None;
     }
     let tenth = y % 64;
     if 9 < tenth {
-        return Field::Wrong;
+        return None;
     }
-    Field::Value(tenth)
+    Some(tenth)
 }

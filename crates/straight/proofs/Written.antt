@@ -7,7 +7,7 @@ use native.Mathlib.Numerals.{add-one}
 use native.Mathlib.Omega.{arith}
 use borrow.Author.Tests.{eq-eqb, ne_eqb}
 use lib.Dec.{eqb}
-use lib.ListN.{length, take, drop, length-drop}
+use lib.ListN.{length, take, drop, length-take, length-drop}
 use lib.Seq.{length-take-le}
 use Rattle.laws.specs.Over.{over}
 use Rattle.laws.proofs.OverLaws.{length_over, over_none, over_short, over_before, onto_end}
@@ -21,7 +21,9 @@ use Rattle.pupil.specs.Pupil.{sign_byte, pupil_text}
 use Rattle.record.specs.Forms.{Back, front_text, middle_text, back_text, serial, text_form, text_length, packed_length, front_of, middle_of, back_of}
 use Rattle.record.specs.declared.Record.{Record}
 use Rattle.text_writer.proofs.Written.{record_long}
-use Rattle.packed_bytes.specs.Bytes.{pupil_in, packed_record}
+use Rattle.packed_bytes.specs.Bytes.{sixes, packed_number, pupil_in, packed_record}
+use Rattle.packed_bytes.proofs.Laws.{few_groups}
+use Rattle.packed_bytes.proofs.Right.{part_of}
 use Rattle.straight.specs.Text.{text_in}
 
 -- ---- the pupil
@@ -34,6 +36,11 @@ pupil_as d {k = k} e f p = p ∙ rw (e, f, size_signed (eqb (k / 2048) 1) (k % 2
 -- digits of a number that was read
 pub tagged_as : (d : List ℕ) (at t w : ℕ) {l : List ℕ} {n k : ℕ} → n ≡ k → l ≡ over d at (t ∷ decimal w n) → l ≡ over d at (t ∷ decimal w k)
 tagged_as d at t w e p = p ∙ ap (λ (x : ℕ). over d at (t ∷ decimal w x)) e
+
+-- a number of w groups from n on in the k bytes from a on
+pub number_at : (a k n w : ℕ) (s : List ℕ) → n + w ≤ k → w ≤ 5 → packed_number (take w (drop (a + n) s)) ≡ sixes (take w (drop n (take k (drop a s))))
+number_at a k n w s h few =
+    few_groups (take w (drop (a + n) s)) (omega (arith, length-take w (drop (a + n) s))) ∙ ap sixes (sym (part_of a k n w s h))
 
 -- a tag over the first of one digit more
 pub tag_over : (d : List ℕ) {e f : List ℕ} (a t w n : ℕ) → e ≡ over d a (decimal (w + 1) n) → f ≡ over e a (t ∷ []) → a + (1 + w) ≤ length d →
@@ -69,8 +76,9 @@ pub none_in : (d s : List ℕ) → length s ≢ packed_length → d ≡ over d 0
 unfolding text_in
 none_in d s n = sym (ap (over d 0) (cond_no _ _ (ne_eqb (length s) packed_length n)) ∙ over_none d 0 (omega arith))
 
+pub contents_long : (s : List ℕ) → length s ≡ packed_length → length (text_form.print (packed_record s)) ≡ text_length
+contents_long s l = record_long (packed_record s) (length-take-le 9 (drop 30 s) (omega (arith, length-drop 30 s)))
+
 -- too little room for 74
 pub no_room : (d s : List ℕ) → length s ≡ packed_length → length d < text_length → d ≡ over d 0 (text_in s)
-no_room d s l h =
-    let nine : length (take 9 (drop 30 s)) ≡ 9 = length-take-le 9 (drop 30 s) (omega (arith, length-drop 30 s)) in
-    sym (ap (over d 0) (text_in_lem s l) ∙ over_short d _ 0 (omega (arith, record_long (packed_record s) nine)))
+no_room d s l h = sym (ap (over d 0) (text_in_lem s l) ∙ over_short d _ 0 (omega (arith, contents_long s l)))

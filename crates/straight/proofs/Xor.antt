@@ -9,6 +9,7 @@ use lib.Arith.{bin_ind}
 use lib.Bits.{bit_xor, xor_comm, xor_zero_r, xor_mod, xor_shr}
 use lib.ListN.{length, get_or, take, drop, take-append-drop, length-drop, drop_of_length-le}
 use lib.Seq.{drop-cons, drop-drop, length-take-le}
+use Rattle.std.specs.Int.{w64, from_le_bytes}
 use Rattle.laws.specs.Lowest.{from_lowest}
 use Rattle.laws.specs.Over.{over}
 use Rattle.laws.proofs.OverLaws.{onto}
@@ -115,9 +116,8 @@ pub xor_end : (x k : ℕ) (s : List ℕ) → length s ≤ k → xor_from x (drop
 unfolding xor_from
 xor_end x k s h = rw (drop_of_length-le s h)
 
--- the bytes of a word, one by one
-pub eight_in : (s : List ℕ) → length s ≡ 8 →
-    get_or s 0 0 + 256 * (get_or s 1 0 + 256 * (get_or s 2 0 + 256 * get_or s 3 0)) + 4294967296 * (get_or s 4 0 + 256 * (get_or s 5 0 + 256 * (get_or s 6 0 + 256 * get_or s 7 0))) ≡ from_lowest s
+-- the library's word of eight bytes
+pub eight_in : (s : List ℕ) → length s ≡ 8 → from_le_bytes w64 s ≡ from_lowest s
 unfolding from_lowest
 eight_in (a ∷ b ∷ c ∷ d ∷ e ∷ f ∷ g ∷ h ∷ []) l = omega arith
 eight_in [] l = absurd (omega arith)

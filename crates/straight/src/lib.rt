@@ -1,28 +1,21 @@
 // A record's text straight from its packed bytes, and its ending.
 #![tactic(auto)]
 
-ghost use Rattle.std.specs.Prelude.{◌∷◌, ◌≡◌, ◌+◌, ◌*◌, ◌≤◌, length};
+ghost use Rattle.std.specs.Prelude.{◌∷◌, ◌≡◌, ◌+◌, ◌*◌, ◌≤◌, length, take, drop};
 ghost use Rattle.laws.specs.Lowest.{from_lowest};
 ghost use Rattle.laws.specs.Over.{over};
 ghost use Rattle.digits.specs.Digits.{decimal};
 ghost use Rattle.stop.specs.Stop.{stop_text};
 ghost use Rattle.frame.specs.Frame.{xor_from, ending_width};
-ghost use Rattle.record.specs.Forms.{front_text, middle_text, back_text, text_form, text_length, packed_length};
-ghost use Rattle.packed_bytes.specs.Bytes.{sixes, front_in, middle_in, back_in, packed_record};
+ghost use Rattle.record.specs.Forms.{front_text, middle_text, back_text, text_form, text_length};
+ghost use Rattle.packed_bytes.specs.Bytes.{front_in, middle_in, back_in, packed_record};
 ghost use Rattle.straight.specs.Words.{together};
 ghost use Rattle.straight.specs.Clauses.{PutContents, EndText};
 
+use packed_bytes::number_in;
 use record::{PACKED_LENGTH, TEXT_LENGTH};
 
 // ---- the contents
-
-// The number in up to five groups.
-fn number_in(s: &[u8]) -> u32
-    requires { length s.now ≤ 5 }
-    ensures { result ≡ sixes s.now }
-{
-    packed_bytes::number_in(s)
-}
 
 // Writes a tag and the decimal digits behind it. Three digits and seven are written with one more before them, since four and eight go
 // at once, and the tag goes over that one.
@@ -40,8 +33,7 @@ fn put_tagged(out: &mut [u8], at: usize, tag: u8, width: usize, n: u32)
 }
 
 // Writes the three characters of a stop.
-fn put_stop(out: &mut [u8], stop: u32)
-    requires { text_length ≤ length out.old }
+fn put_stop(out: &mut [u8; TEXT_LENGTH], stop: u32)
     ensures { out.new ≡ over out.old 14 (stop_text stop) }
 {
     if stop < 100 {
@@ -54,9 +46,8 @@ fn put_stop(out: &mut [u8], stop: u32)
 }
 
 // Writes D, T, t, +.
-fn put_front(out: &mut [u8], s: &[u8])
-    requires { (text_length ≤ length out.old) × (length s.now ≡ 9) }
-    ensures { out.new ≡ over out.old 0 (front_text.print (front_in s.now)) }
+fn put_front(out: &mut [u8; TEXT_LENGTH], s: &[u8; PACKED_LENGTH])
+    ensures { out.new ≡ over out.old 0 (front_text.print (front_in (take 9 s.now))) }
 {
     put_tagged(out, 0, b'D', 7, number_in(&s[1..5]));
     put_tagged(out, 8, b'T', 4, number_in(&s[5..7]));
@@ -66,38 +57,35 @@ fn put_front(out: &mut [u8], s: &[u8])
 }
 
 // Writes Z, H, N, F.
-fn put_middle(out: &mut [u8], s: &[u8])
-    requires { (text_length ≤ length out.old) × (length s.now ≡ 14) }
-    ensures { out.new ≡ over out.old 19 (middle_text.print (middle_in s.now)) }
+fn put_middle(out: &mut [u8; TEXT_LENGTH], s: &[u8; PACKED_LENGTH])
+    ensures { out.new ≡ over out.old 19 (middle_text.print (middle_in (take 14 (drop 9 s.now)))) }
 {
-    put_tagged(out, 19, b'Z', 4, number_in(&s[0..2]));
-    put_tagged(out, 24, b'H', 7, number_in(&s[2..6]));
-    put_tagged(out, 32, b'N', 7, number_in(&s[6..10]));
-    put_tagged(out, 40, b'F', 7, number_in(&s[10..14]));
+    put_tagged(out, 19, b'Z', 4, number_in(&s[9..11]));
+    put_tagged(out, 24, b'H', 7, number_in(&s[11..15]));
+    put_tagged(out, 32, b'N', 7, number_in(&s[15..19]));
+    put_tagged(out, 40, b'F', 7, number_in(&s[19..23]));
 }
 
 // Writes V, E, z.
-fn put_back(out: &mut [u8], s: &[u8])
-    requires { (text_length ≤ length out.old) × (length s.now ≡ 6) }
-    ensures { out.new ≡ over out.old 48 (back_text.print (back_in s.now)) }
+fn put_back(out: &mut [u8; TEXT_LENGTH], s: &[u8; PACKED_LENGTH])
+    ensures { out.new ≡ over out.old 48 (back_text.print (back_in (take 6 (drop 23 s.now)))) }
 {
-    let view = number_in(&s[0..2]);
+    let view = number_in(&s[23..25]);
     put_tagged(out, 48, b'V', 3, view / 10);
     put_tagged(out, 52, b'.', 1, view % 10);
-    let code = number_in(&s[2..4]);
+    let code = number_in(&s[25..27]);
     lent::put_byte(out, 54, b'E');
     put_tagged(out, 55, packed_bytes::sign_in(code), 3, code % 2048);
-    put_tagged(out, 59, b'z', 4, number_in(&s[4..6]));
+    put_tagged(out, 59, b'z', 4, number_in(&s[27..29]));
 }
 
 // Writes them all.
-fn put_record(out: &mut [u8], s: &[u8])
-    requires { (text_length ≤ length out.old) × (length s.now ≡ packed_length) }
+fn put_record(out: &mut [u8; TEXT_LENGTH], s: &[u8; PACKED_LENGTH])
     ensures { out.new ≡ over out.old 0 (text_form.print (packed_record s.now)) }
 {
-    put_front(out, &s[0..9]);
-    put_middle(out, &s[9..23]);
-    put_back(out, &s[23..29]);
+    put_front(out, s);
+    put_middle(out, s);
+    put_back(out, s);
     lent::put_byte(out, 64, b'S');
     lent::put_text(out, 65, &s[30..PACKED_LENGTH]);
 }
@@ -106,12 +94,12 @@ fn put_record(out: &mut [u8], s: &[u8])
 pub fn put_contents(out: &mut [u8], s: &[u8])
     ensures { PutContents out.old s.now out.new }
 {
-    if s.len() != PACKED_LENGTH {
+    let Some(s) = s.as_array::<PACKED_LENGTH>() else {
         return;
-    }
-    if out.len() < TEXT_LENGTH {
+    };
+    let Some(out) = out.first_chunk_mut::<TEXT_LENGTH>() else {
         return;
-    }
+    };
     put_record(out, s);
 }
 
@@ -122,9 +110,7 @@ fn word_in(s: &[u8]) -> u64
     requires { length s.now ≡ 8 }
     ensures { result ≡ from_lowest s.now }
 {
-    let low = packed_bytes::quad(s[0], s[1], s[2], s[3]);
-    let high = packed_bytes::quad(s[4], s[5], s[6], s[7]);
-    low + 4294967296 * high
+    u64::from_le_bytes([s[0], s[1], s[2], s[3], s[4], s[5], s[6], s[7]])
 }
 
 // The exclusive-or of the bytes of a word.
@@ -142,10 +128,8 @@ fn xor_words(s: &[u8], n: usize) -> u8
     ensures { result ≡ xor_from 255 s.now }
 {
     let mut x: u64 = 255;
-    let mut i = 0;
-    while i < n {
-        x = x ^ word_in(&s[8 * i..8 * i + 8]);
-        i += 1;
+    for i in 0..n {
+        x ^= word_in(&s[8 * i..8 * i + 8]);
     }
     folded(x)
 }

@@ -8,12 +8,12 @@ use native.Mathlib.Omega.{arith}
 use borrow.Author.Tests.{ltb-true, ltb-false, le-leb, leb-true}
 use lib.Dec.{leb, ltb, eqb}
 use lib.ListN.{length, length-append}
+use Rattle.std.specs.Prelude.{Err, Ok}
 use Rattle.laws.proofs.Tests.{cond_yes, cond_no, told, by, never, and_both}
+use Rattle.refusal.specs.Answer.{Verdict}
 use Rattle.refusal.specs.Refusal.{number_of}
 use Rattle.refusal.specs.declared.Refusal.{Refusal}
 use Rattle.refusal.specs.declared.Refusal.TheVariants as refusal
-use Rattle.refusal.specs.declared.Verdict.{Verdict}
-use Rattle.refusal.specs.declared.Verdict.TheVariants.{Done, Refused}
 use Rattle.units.specs.Units.{is_unit}
 use Rattle.units.specs.Measurement.{measurement_lowest, measurement_verdict}
 use Rattle.units.specs.declared.Measurement.{Measurement}
@@ -50,24 +50,24 @@ module _ (r : Run) (e : Event) where
 
 -- ---- received
 
-received : (r : Run) (b : ℕ) → is_over r ≡ false → (receive_of r.port r.line b).verdict ≡ Done → (tell_of r (Received b)).text ≡ []
+received : (r : Run) (b : ℕ) → is_over r ≡ false → (receive_of r.port r.line b).verdict ≡ Ok tt → (tell_of r (Received b)).text ≡ []
 unfolding tells
 received r b o d = ap (λ (t : Telling). t.text) (on r (Received b) o) ∙ ap verdict_text d
 
 -- of a run of ours, 7 is the only refusal
-is_dropped : (r : Run) (b : ℕ) (x : Refusal) → valid_run r ≡ true → (receive_of r.port r.line b).verdict ≡ Refused x → x ≡ refusal.Dropped
+is_dropped : (r : Run) (b : ℕ) (x : Refusal) → valid_run r ≡ true → (receive_of r.port r.line b).verdict ≡ Err x → x ≡ refusal.Dropped
 is_dropped r b x v e =
     let o = ours r v in
     ⊎_elim (λ c. never (cc (c.0, and_both o.port o.line))) (λ c. c.3) ((by_case.receive r.port r.line b x).0 e)
 
-dropped : (r : Run) (b : ℕ) (x : Refusal) → is_over r ≡ false → valid_run r ≡ true → (receive_of r.port r.line b).verdict ≡ Refused x →
+dropped : (r : Run) (b : ℕ) (x : Refusal) → is_over r ≡ false → valid_run r ≡ true → (receive_of r.port r.line b).verdict ≡ Err x →
     (x ≡ refusal.Dropped) ×
     ((tell_of r (Received b)).text ≡ refused_text refusal.Dropped) ×
     ((tell_of r (Received b)).run ≡ record { port = r.port; line = blank; slots = r.slots; stopped = r.stopped })
 unfolding tells
 dropped r b x o v e =
     let d = is_dropped r b x v e in
-    let f : (receive_of r.port r.line b).verdict ≡ Refused refusal.Dropped = e ∙ ap Refused d in
+    let f : (receive_of r.port r.line b).verdict ≡ Err refusal.Dropped = e ∙ ap Err d in
     let p = refused_same.receive r.port r.line b x e in
     let l = refused_same.receive_7 r.port r.line b f in (
       d,
@@ -77,22 +77,22 @@ dropped r b x o v e =
 
 -- ---- measured
 
-measured : (r : Run) (m : Measurement) → is_over r ≡ false → (measure_of r.port m).verdict ≡ Done → (tell_of r (Measured m)).text ≡ []
+measured : (r : Run) (m : Measurement) → is_over r ≡ false → (measure_of r.port m).verdict ≡ Ok tt → (tell_of r (Measured m)).text ≡ []
 unfolding tells
 measured r m o d = ap (λ (t : Telling). t.text) (on r (Measured m) o) ∙ ap verdict_text d
 
 -- a measurement is refused with 1 only
-only_1 : (m : Measurement) (x : Refusal) → measurement_verdict m ≡ Refused x → number_of x ≡ 1
+only_1 : (m : Measurement) (x : Refusal) → measurement_verdict m ≡ Err x → number_of x ≡ 1
 unfolding measurement_verdict
 only_1 m x =
-    by (λ (v : Verdict). v ≡ Refused x → number_of x ≡ 1) (is_unit m.unit) _ _
+    by (λ (v : Verdict). v ≡ Err x → number_of x ≡ 1) (is_unit m.unit) _ _
     (λ y.
-    by (λ (v : Verdict). v ≡ Refused x → number_of x ≡ 1) (eqb (measurement_lowest m) 0) _ _
+    by (λ (v : Verdict). v ≡ Err x → number_of x ≡ 1) (eqb (measurement_lowest m) 0) _ _
     (λ z e. never (cc))
     (λ z e. let k : x ≡ refusal.Field (measurement_lowest m) = cc in ap number_of k))
     (λ n e. let k : x ≡ refusal.Field 0 = cc in ap number_of k)
 
-refused : (r : Run) (m : Measurement) (x : Refusal) → is_over r ≡ false → valid_run r ≡ true → (measure_of r.port m).verdict ≡ Refused x →
+refused : (r : Run) (m : Measurement) (x : Refusal) → is_over r ≡ false → valid_run r ≡ true → (measure_of r.port m).verdict ≡ Err x →
     (number_of x ≡ 1) × ((tell_of r (Measured m)).text ≡ refused_text x) × ((tell_of r (Measured m)).run ≡ r)
 unfolding tells
 refused r m x o v e = (
@@ -222,8 +222,8 @@ unfolding labelled
 refused_short x = let n = number_of x in rw (length-append (numeral n) _) (let w = six_at_most n in omega arith)
 
 verdict_short : (v : Verdict) → length (verdict_text v) ≤ 15
-verdict_short Done = omega arith
-verdict_short (Refused x) = refused_short x
+verdict_short (Ok tt) = omega arith
+verdict_short (Err x) = refused_short x
 
 left_most : (r : Run) (n : ℕ) → slots_left r n ≤ n
 unfolding slots_left

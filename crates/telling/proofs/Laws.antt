@@ -7,12 +7,12 @@ use mathlib.Core.Path.{◌≡◌, refl, sym, ap, subst, ◌∙◌}
 use native.Mathlib.Omega.{arith}
 use borrow.Author.Tests.{le-leb, leb-true, leb-false, ltb-true}
 use lib.Dec.{leb, ltb}
+use Rattle.std.specs.Prelude.{Err, Ok}
 use Rattle.laws.specs.Gives.{Gives}
 use Rattle.laws.specs.Over.{over}
 use Rattle.laws.proofs.Tests.{yes, no, told, by, cond_yes, cond_no, and_left, and_right, and_both}
+use Rattle.refusal.specs.Answer.{Answer}
 use Rattle.refusal.specs.declared.Refusal.TheVariants.{State}
-use Rattle.frame.specs.declared.Wrote.{Wrote}
-use Rattle.frame.specs.declared.Wrote.TheVariants as wrote
 use Rattle.line.specs.Line.{valid_line}
 use Rattle.port.specs.Port.{valid_port}
 use Rattle.capture.specs.declared.Event.{Event}
@@ -25,17 +25,17 @@ use Rattle.telling.specs.declared.Told.{Told}
 -- ---- an event
 
 -- what was printed decides which run is handed back
-pub told_by_lem : (t : Telling) (old : Run) (out : List ℕ) {after : List ℕ} {w : Wrote} {r : Told} → Prints t.text out w after → r ≡ handed w t.run old →
+pub told_by_lem : (t : Telling) (old : Run) (out : List ℕ) {after : List ℕ} {w : Answer ℕ} {r : Told} → Prints t.text out w after → r ≡ handed w t.run old →
     Tells t old out r after
-told_by_lem t old out p e = record { answers = e ∙ ap (λ (x : Wrote). handed x t.run old) p.answers; leaves = p.leaves }
+told_by_lem t old out p e = record { answers = e ∙ ap (λ (x : Answer ℕ). handed x t.run old) p.answers; leaves = p.leaves }
 
 -- of a run that is none, and of one that is over
 module _ (r : Run) (e : Event) (out : List ℕ) where
-  pub tell_16 : valid_run r ≡ false → Gives (told_of r e out) (told_leaves r e out) (record { wrote = wrote.Refused State; run = r }) out
+  pub tell_16 : valid_run r ≡ false → Gives (told_of r e out) (told_leaves r e out) (record { wrote = Err State; run = r }) out
   unfolding told_of told_leaves
   tell_16 v = record { answers = no _ v refl; leaves = no _ v refl }
 
-  pub tell_over : valid_run r ≡ true → is_over r ≡ true → Gives (told_of r e out) (told_leaves r e out) (record { wrote = wrote.Count 0; run = r }) out
+  pub tell_over : valid_run r ≡ true → is_over r ≡ true → Gives (told_of r e out) (told_leaves r e out) (record { wrote = Ok 0; run = r }) out
   unfolding told_of told_leaves tell_of
   tell_over v o =
       let p = told_by_lem (record { text = []; run = r }) r out (prints_none out) refl in

@@ -5,11 +5,11 @@ use mathlib.Core.List.{List}
 use mathlib.Core.Path.{◌≡◌, sym, ◌∙◌}
 use borrow.Author.Tests.{le-leb}
 use lib.ListN.{length}
+use Rattle.std.specs.Prelude.{Ok}
 use Rattle.laws.specs.Over.{over}
 use Rattle.laws.proofs.Tests.{cond_yes}
 use Rattle.refusal.specs.Answer.{unless}
 use Rattle.frame.specs.Message.{room_for}
-use Rattle.frame.specs.declared.Wrote.TheVariants as wrote
 use Rattle.capture.specs.declared.Event.{Event}
 use Rattle.telling.specs.declared.Run.{Run}
 use Rattle.printed.specs.Printed.{slots_line}
@@ -21,7 +21,7 @@ use Rattle.telling.proofs.Start.{start_done, start_valid, start_is, start_none}
 
 module _ (r : Run) (out : List ℕ) (v : valid_run r ≡ true) where
   tell_done : (e : Event) → length (tell_of r e).text ≤ length out →
-      (told_of r e out ≡ record { wrote = wrote.Count (length (tell_of r e).text); run = (tell_of r e).run }) × (told_leaves r e out ≡ over out 0 (tell_of r e).text)
+      (told_of r e out ≡ record { wrote = Ok (length (tell_of r e).text); run = (tell_of r e).run }) × (told_leaves r e out ≡ over out 0 (tell_of r e).text)
   unfolding told_of told_leaves room_for unless
   tell_done e h = (cond_yes _ _ v ∙ rw (le-leb _ _ h), cond_yes _ _ v)
 

@@ -6,9 +6,9 @@ use mathlib.Core.Path.{◌≡◌, refl, sym, ap, ap₂, ◌∙◌}
 use native.Mathlib.Omega.{arith}
 use borrow.Author.Tests.{eqb-true, eqb-false}
 use lib.Dec.{eqb}
+use Rattle.std.specs.Prelude.{Err, Ok}
 use Rattle.laws.proofs.Tests.{told, never}
 use Rattle.refusal.specs.declared.Refusal.TheVariants.{Setting}
-use Rattle.refusal.specs.declared.Verdict.TheVariants.{Done, Refused}
 use Rattle.refusal.specs.declared.Refusal.{Refusal}
 use Rattle.laws.specs.Every.{every}
 use Rattle.laws.specs.Within.{within}
@@ -73,19 +73,19 @@ module _ (l : ℕ) where
         λ h. rows.1 (one.0, (two.0, (three.0, (four.0, (five.0, (is_letter_lem h, five.1.1)))))),
       )
 
-  pub start_done : ((start_with l).verdict ≡ Done) ↔ Letter l
+  pub start_done : ((start_with l).verdict ≡ Ok tt) ↔ Letter l
   unfolding start_with
   start_done = (
     λ d.
         told (eqb (settings_lowest (bench_settings l)) 0)
         (λ y. settings_fine.0 (eqb-true _ 0 y))
         (λ n.
-        let z : Done ≡ Refused (Setting _) = sym d ∙ (by_case.start unstarted blank _ bench_measurement _).1 (inl (eqb-false _ 0 n, refl)) in
+        let z : (Ok tt) ≡ Err (Setting _) = sym d ∙ (by_case.start unstarted blank _ bench_measurement _).1 (inl (eqb-false _ 0 n, refl)) in
         never (cc)),
     λ h. start_verdict_lem unstarted blank _ _ ∙ good_settings _ bench_measurement (settings_fine.1 h) ∙ bench_valid.measurement,
   )
 
-  pub start_valid : (start_with l).verdict ≡ Done → valid_run (start_with l).run ≡ true
+  pub start_valid : (start_with l).verdict ≡ Ok tt → valid_run (start_with l).run ≡ true
   unfolding start_with
   start_valid d =
       is_ours (start_with l).run
@@ -95,7 +95,7 @@ module _ (l : ℕ) where
         slots = omega arith;
       })
 
-  pub start_is : (start_with l).verdict ≡ Done →
+  pub start_is : (start_with l).verdict ≡ Ok tt →
       (start_with l).run ≡ record { port = started_port (bench_settings l) bench_measurement; line = blank; slots = 0; stopped = false }
   unfolding start_with
   start_is d =
@@ -106,6 +106,6 @@ module _ (l : ℕ) where
   unfolding valid_port valid_source valid_message valid_modes settings_lowest measurement_verdict measurement_lowest figures_lowest front_lowest middle_lowest back_lowest failing first text_ok every kind_ok letter_ok lens_lowest fixed_lowest by_unit stop_ok within unit_of
   unstarted_none = refl
 
-  pub start_none : (x : Refusal) → (start_with l).verdict ≡ Refused x → valid_run (start_with l).run ≡ false
+  pub start_none : (x : Refusal) → (start_with l).verdict ≡ Err x → valid_run (start_with l).run ≡ false
   unfolding start_with valid_run
   start_none x d = rw ((refused_same.start unstarted blank (bench_settings l) bench_measurement x d).0, unstarted_none)

@@ -4,7 +4,7 @@ use mathlib.Core.Bool.{Bool}
 use mathlib.Core.List.{List}
 use mathlib.Core.Path.{◌≡◌}
 use Rattle.laws.proofs.OneAnswer.{one_answer, one_outcome}
-use Rattle.frame.specs.declared.Wrote.{Wrote}
+use Rattle.refusal.specs.Answer.{Answer}
 use Rattle.capture.specs.declared.Event.{Event}
 use Rattle.telling.specs.Clauses.{RunStart, RunIsValid, RunIsOver, RunTell, RunCount}
 use Rattle.telling.specs.declared.Run.{Run}
@@ -24,6 +24,6 @@ pub one_tell : (self : Run) (event : Event) (out : List ℕ) {r r' : Told} {afte
     RunTell self event out r after → RunTell self event out r' after' → (r ≡ r') × (after ≡ after')
 one_tell self event out = one_outcome
 
-pub one_count : (self : Run) (out : List ℕ) {r r' : Wrote} {after after' : List ℕ} →
+pub one_count : (self : Run) (out : List ℕ) {r r' : Answer ℕ} {after after' : List ℕ} →
     RunCount self out r after → RunCount self out r' after' → (r ≡ r') × (after ≡ after')
 one_count self out = one_outcome

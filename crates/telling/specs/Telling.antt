@@ -1,10 +1,9 @@
 -- What an event makes of a run: the text that it prints, and the run after it.
-use Rattle.std.specs.Prelude.{ℕ, ◌+◌, ◌-◌, Bool, true, false, cond, ◌&&◌, ◌||◌, List, [], ◌≡◌, ltb, leb}
+use Rattle.std.specs.Prelude.{ℕ, ◌+◌, ◌-◌, Bool, true, false, cond, ◌&&◌, ◌||◌, List, [], ◌≡◌, ltb, leb, Err, Ok}
 use Rattle.laws.specs.Gives.{Gives}
 use Rattle.laws.specs.Over.{over}
+use Rattle.refusal.specs.Answer.{Answer}
 use Rattle.refusal.specs.declared.Refusal.TheVariants.{Form, State}
-use Rattle.frame.specs.declared.Wrote.{Wrote}
-use Rattle.frame.specs.declared.Wrote.TheVariants as wrote
 use Rattle.bench_lens.specs.Bench.{bench_settings, bench_measurement}
 use Rattle.line.specs.Line.{blank, valid_line}
 use Rattle.port.specs.declared.Port.{Port}
@@ -67,9 +66,9 @@ pub record RunsSlots (count : ℕ) (p : Port) (out : List ℕ) (r : Port) (after
   pub text : after ≡ over out 0 (slots_text count p)
 
 -- printed, the new run; for want of room the old one
-abbrev pub handed : Wrote → Run → Run → Told
-handed (wrote.Count n) new old = record { wrote = wrote.Count n; run = new }
-handed (wrote.Refused r) new old = record { wrote = wrote.Refused r; run = old }
+abbrev pub handed : Answer ℕ → Run → Run → Told
+handed (Ok n) new old = record { wrote = Ok n; run = new }
+handed (Err r) new old = record { wrote = Err r; run = old }
 
 abbrev pub told_in : Telling → Run → List ℕ → Told
 told_in t r out = handed (printed_in t.text out) t.run r
@@ -79,13 +78,13 @@ Tells t self out r after = Gives (told_in t self out) (over out 0 t.text) r afte
 
 -- 16 before all
 unfoldable pub told_of : Run → Event → List ℕ → Told
-told_of r e out = cond (valid_run r) (told_in (tell_of r e) r out) (record { wrote = wrote.Refused State; run = r })
+told_of r e out = cond (valid_run r) (told_in (tell_of r e) r out) (record { wrote = Err State; run = r })
 
 unfoldable pub told_leaves : Run → Event → List ℕ → List ℕ
 told_leaves r e out = cond (valid_run r) (over out 0 (tell_of r e).text) out
 
-unfoldable pub count_of : Run → List ℕ → Wrote
-count_of r out = cond (valid_run r) (printed_in (slots_line r.slots) out) (wrote.Refused State)
+unfoldable pub count_of : Run → List ℕ → Answer ℕ
+count_of r out = cond (valid_run r) (printed_in (slots_line r.slots) out) (Err State)
 
 unfoldable pub count_leaves : Run → List ℕ → List ℕ
 count_leaves r out = cond (valid_run r) (over out 0 (slots_line r.slots)) out

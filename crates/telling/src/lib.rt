@@ -7,10 +7,9 @@ ghost use Rattle.telling.specs.Telling.{RunsSlots, slots_left, handed, tells, Te
 ghost use Rattle.telling.specs.Clauses.{RunStart, RunIsValid, RunIsOver, RunTell, RunCount};
 
 use capture::Event;
-use frame::Wrote;
 use line::Line;
 use port::Port;
-use refusal::{Refusal, Verdict};
+use refusal::Refusal;
 use units::Measurement;
 
 // A run stops after so many slots.
@@ -30,14 +29,14 @@ pub struct Run {
 // What a start hands back.
 #[derive(Clone, Copy)]
 pub struct Begun {
-    pub verdict: Verdict,
+    pub verdict: Result<(), Refusal>,
     pub run: Run,
 }
 
 // What an event makes of a run: how many bytes it printed, or the refusal that left all as it was.
 #[derive(Clone, Copy)]
 pub struct Told {
-    pub wrote: Wrote,
+    pub wrote: Result<usize, Refusal>,
     pub run: Run,
 }
 
@@ -47,10 +46,8 @@ fn put_slots(port: Port, count: u32, out: &mut [u8]) -> Port
     ensures { RunsSlots count port out.old result out.new }
 {
     let mut now = port;
-    let mut left = count;
     let mut at = 0;
-    while 0 < left {
-        left -= 1;
+    for left in (0..count).rev() {
         let slotted = now.slot();
         let sent = slotted.sent;
         printed::put_slot(sent, out, at);
@@ -63,23 +60,19 @@ fn put_slots(port: Port, count: u32, out: &mut [u8]) -> Port
 }
 
 // What is handed back once it was printed: the new run, or, for want of room, the old one.
-fn handed_by(wrote: Wrote, new: Run, old: Run) -> Told
+fn handed_by(wrote: Result<usize, Refusal>, new: Run, old: Run) -> Told
     ensures { result ≡ handed wrote new old }
 {
-    match wrote {
-        Wrote::Count(n) => Told {
-            wrote: Wrote::Count(n),
-            run: new,
-        },
-        Wrote::Refused(r) => Told {
-            wrote: Wrote::Refused(r),
-            run: old,
-        },
-    }
+    let run = match wrote {
+        Ok(_) => new,
+        Err(_) => old,
+    };
+    Told { wrote, run }
 }
 
 impl Run {
     // The session program's lens, started with this start-up letter; a refused start leaves a run that is none.
+    #[tactic(auto, unfolding(crate::specs::Telling::start_with))]
     pub fn start(letter: u8) -> Begun
         ensures { RunStart letter result }
     {
@@ -89,14 +82,11 @@ impl Run {
             bench_lens::bench_settings(letter),
             bench_lens::bench_measurement(),
         );
-        let verdict = started.verdict;
-        let port = started.port;
-        let line = started.line;
         Begun {
-            verdict,
+            verdict: started.verdict,
             run: Run {
-                port,
-                line,
+                port: started.port,
+                line: started.line,
                 slots: 0,
                 stopped: false,
             },
@@ -104,65 +94,53 @@ impl Run {
     }
 
     // Whether a handed-in run is one of ours (16): its port, its line, its slots.
+    #[tactic(auto, unfolding(crate::specs::Telling::valid_run))]
     pub fn is_valid(self) -> bool
         ensures { RunIsValid self result }
     {
-        let port = self.port;
-        let line = self.line;
-        (port.is_valid() & line.is_valid()) & (self.slots <= LAST_SLOT)
+        self.port.is_valid() && self.line.is_valid() && self.slots <= LAST_SLOT
     }
 
     // Whether the run has ended: by a line of other form, or by its last slot.
     pub fn is_over(self) -> bool
         ensures { RunIsOver self result }
     {
-        self.stopped | (LAST_SLOT <= self.slots)
+        self.stopped || LAST_SLOT <= self.slots
     }
 
     // A received byte.
+    #[tactic(auto, unfolding(crate::specs::Telling::tells))]
     fn tell_received(self, byte: u8, out: &mut [u8]) -> Told
         ensures { Tells (tells self (event.Received byte)) self out.old result out.new }
     {
-        let port = self.port;
-        let line = self.line;
-        let received = port.receive(line, byte);
-        let verdict = received.verdict;
-        let after = received.port;
-        let collected = received.line;
+        let received = self.port.receive(self.line, byte);
         let run = Run {
-            port: after,
-            line: collected,
-            slots: self.slots,
-            stopped: self.stopped,
+            port: received.port,
+            line: received.line,
+            ..self
         };
-        handed_by(printed::put_verdict(verdict, out), run, self)
+        handed_by(printed::put_verdict(received.verdict, out), run, self)
     }
 
     // A new measurement.
+    #[tactic(auto, unfolding(crate::specs::Telling::tells))]
     fn tell_measured(self, measurement: Measurement, out: &mut [u8]) -> Told
         ensures { Tells (tells self (event.Measured measurement)) self out.old result out.new }
     {
-        let port = self.port;
-        let measured = port.measure(measurement);
-        let verdict = measured.verdict;
-        let after = measured.port;
-        let mut run = self;
-        run.port = after;
-        handed_by(printed::put_verdict(verdict, out), run, self)
+        let measured = self.port.measure(measurement);
+        let run = Run {
+            port: measured.port,
+            ..self
+        };
+        handed_by(printed::put_verdict(measured.verdict, out), run, self)
     }
 
     // How many of n slots the run has left.
+    #[tactic(auto, unfolding(crate::specs::Telling::slots_left))]
     fn slots_left(self, n: u32) -> u32
         ensures { result ≡ slots_left self n }
     {
-        if LAST_SLOT <= self.slots {
-            return 0;
-        }
-        let left = LAST_SLOT - self.slots;
-        if n < left {
-            return n;
-        }
-        left
+        n.min(LAST_SLOT.saturating_sub(self.slots))
     }
 
     // Slots, as many as are left.
@@ -173,32 +151,31 @@ impl Run {
         let need = 3 * count as usize;
         if out.len() < need {
             return Told {
-                wrote: Wrote::Refused(Refusal::Room(need)),
+                wrote: Err(Refusal::Room(need)),
                 run: self,
             };
         }
-        let port = self.port;
-        let after = put_slots(port, count, out);
-        let mut run = self;
-        run.port = after;
-        run.slots = self.slots + count;
+        let run = Run {
+            port: put_slots(self.port, count, out),
+            slots: self.slots + count,
+            ..self
+        };
         Told {
-            wrote: Wrote::Count(need),
+            wrote: Ok(need),
             run,
         }
     }
 
     // A line of other form, which ends the run.
+    #[tactic(auto, unfolding(crate::specs::Telling::tells))]
     fn tell_other(self, out: &mut [u8]) -> Told
         ensures { Tells (tells self event.Other) self out.old result out.new }
     {
-        let mut run = self;
-        run.stopped = true;
-        handed_by(
-            printed::put_verdict(Verdict::Refused(Refusal::Form), out),
-            run,
-            self,
-        )
+        let run = Run {
+            stopped: true,
+            ..self
+        };
+        handed_by(printed::put_verdict(Err(Refusal::Form), out), run, self)
     }
 
     // Runs an event and prints what it told: 16, then 2. After the run's end it does nothing.
@@ -207,13 +184,13 @@ impl Run {
     {
         if !self.is_valid() {
             return Told {
-                wrote: Wrote::Refused(Refusal::State),
+                wrote: Err(Refusal::State),
                 run: self,
             };
         }
         if self.is_over() {
             return Told {
-                wrote: Wrote::Count(0),
+                wrote: Ok(0),
                 run: self,
             };
         }
@@ -226,11 +203,12 @@ impl Run {
     }
 
     // The last line: the slots run.
-    pub fn count(self, out: &mut [u8]) -> Wrote
+    #[tactic(auto, unfolding(crate::specs::Telling::count_of, crate::specs::Telling::count_leaves))]
+    pub fn count(self, out: &mut [u8]) -> Result<usize, Refusal>
         ensures { RunCount self out.old result out.new }
     {
         if !self.is_valid() {
-            return Wrote::Refused(Refusal::State);
+            return Err(Refusal::State);
         }
         printed::put_count(self.slots, out)
     }

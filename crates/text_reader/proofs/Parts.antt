@@ -6,9 +6,9 @@ use native.Mathlib.Omega.{arith}
 use borrow.Author.Tests.{eq-eqb}
 use lib.ListN.{length, take, drop, length-take, length-drop}
 use lib.Seq.{take-take, drop-drop, length-take-le}
+use Rattle.std.specs.Prelude.{Option}
 use Rattle.laws.proofs.ListLaws.{drop_of_take, last_part}
 use Rattle.digits.specs.Digits.{read_decimal}
-use Rattle.digits.specs.declared.Field.{Field}
 use Rattle.codec.specs.Codec.{Codec, both, field_says, read_tagged, read_whole, parsed}
 use Rattle.codec.proofs.Fields.{read_whole_lem, parsed_whole, tagged_says, tagged_number}
 use Rattle.pointed.specs.Pointed.{pointed, read_pointed}
@@ -72,7 +72,7 @@ module _ (s : List ℕ) where
         tagged_number 70 8 10 48 7 top_distance (drop 21 s),
       )
 
-  pub zoom_parts : (zoom : Field) → length s ≡ 11 → with_zoom s zoom ≡
+  pub zoom_parts : (zoom : Option ℕ) → length s ≡ 11 → with_zoom s zoom ≡
       both (field_says 9 (read_whole 6 (read_tagged 86 (read_pointed 4095)) (take 6 s))) (both (pupil_says (read_pupil_text (take 5 (drop 6 s)))) (field_says 11 zoom))
   unfolding with_zoom pointed
   zoom_parts zoom l =
@@ -86,7 +86,7 @@ module _ (s : List ℕ) where
       )
 
   -- whatever zoom stands behind V and E
-  pub back_parts : (zoom : Codec ℕ) (f : Field) → zoom.width ≡ 5 → length s ≡ 16 → field_says 11 f ≡ zoom.parse (take 5 (drop 11 s)) →
+  pub back_parts : (zoom : Codec ℕ) (f : Option ℕ) → zoom.width ≡ 5 → length s ≡ 16 → field_says 11 f ≡ zoom.parse (take 5 (drop 11 s)) →
       with_zoom (take 11 s) f ≡ parsed (back_by zoom) 9 s
   unfolding with_zoom pointed
   back_parts zoom f w l e =

@@ -3,15 +3,15 @@ use Prim.Native.Nat.{ℕ}
 use mathlib.Core.Bool.{Bool}
 use mathlib.Core.List.{List}
 use mathlib.Core.Path.{◌≡◌}
+use Rattle.std.specs.Prelude.{Option}
 use Rattle.laws.proofs.OneAnswer.{one_answer}
-use Rattle.digits.specs.declared.Field.{Field}
-use Rattle.record.specs.declared.RecordRead.{RecordRead}
-use Rattle.gather.specs.declared.Four.{Four}
-use Rattle.gather.specs.declared.Three.{Three}
+use Rattle.gather.specs.Gather.{Four, Three}
+use Rattle.record.specs.declared.Record.{Record}
+use Rattle.refusal.specs.Answer.{Answer}
 use Rattle.gather.proofs.Unique.{one_four, one_three}
 use Rattle.text_reader.specs.Clauses.{ReadView, ReadFront, ReadMiddle, WithZoom, ReadBack, ReadContents, ReadText}
 
-pub one_read_view : (s : List ℕ) {r r' : Field} → ReadView s r → ReadView s r' → r ≡ r'
+pub one_read_view : (s : List ℕ) {r r' : Option ℕ} → ReadView s r → ReadView s r' → r ≡ r'
 one_read_view s = one_answer
 
 pub one_read_front : (s : List ℕ) {r r' : Four} → ReadFront s r → ReadFront s r' → r ≡ r'
@@ -20,14 +20,14 @@ one_read_front s = one_four
 pub one_read_middle : (s : List ℕ) {r r' : Four} → ReadMiddle s r → ReadMiddle s r' → r ≡ r'
 one_read_middle s = one_four
 
-pub one_with_zoom : (s : List ℕ) (zoom : Field) {r r' : Three} → WithZoom s zoom r → WithZoom s zoom r' → r ≡ r'
+pub one_with_zoom : (s : List ℕ) (zoom : Option ℕ) {r r' : Three} → WithZoom s zoom r → WithZoom s zoom r' → r ≡ r'
 one_with_zoom s zoom = one_three
 
 pub one_read_back : (s : List ℕ) {r r' : Three} → ReadBack s r → ReadBack s r' → r ≡ r'
 one_read_back s = one_three
 
-pub one_read_contents : (s : List ℕ) {a a' : RecordRead} → ReadContents s a → ReadContents s a' → a ≡ a'
+pub one_read_contents : (s : List ℕ) {a a' : Answer Record} → ReadContents s a → ReadContents s a' → a ≡ a'
 one_read_contents s = one_answer
 
-pub one_read_text : (m : List ℕ) (checksum : Bool) {a a' : RecordRead} → ReadText m checksum a → ReadText m checksum a' → a ≡ a'
+pub one_read_text : (m : List ℕ) (checksum : Bool) {a a' : Answer Record} → ReadText m checksum a → ReadText m checksum a' → a ≡ a'
 one_read_text m checksum = one_answer

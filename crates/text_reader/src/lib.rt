@@ -8,32 +8,30 @@ ghost use Rattle.codec.specs.Codec.{read_tagged};
 ghost use Rattle.stop.specs.Stop.{read_stop_text};
 ghost use Rattle.text_reader.specs.Clauses.{ReadView, ReadFront, ReadMiddle, WithZoom, ReadBack, ReadContents, ReadText};
 
-use digits::Field;
 use gather::{Four, Three};
-use pupil::Signed;
-use record::{RecordRead, TEXT_LENGTH};
-use refusal::{Refusal, Verdict};
+use record::{Record, TEXT_LENGTH};
+use refusal::{Refusal, Wrong};
 
 // Reads t and a stop.
-fn read_stop(s: &[u8]) -> Field
+fn read_stop(s: &[u8]) -> Option<u32>
     requires { length s.now ≡ 4 }
     ensures { result ≡ read_tagged 116 read_stop_text s.now }
 {
     if s[0] != b't' {
-        return Field::Wrong;
+        return None;
     }
     stop::read_stop_text(&s[1..])
 }
 
 // Reads V and a number in tenths.
-pub fn read_view(s: &[u8]) -> Field
+pub fn read_view(s: &[u8]) -> Option<u32>
     ensures { ReadView s.now result }
 {
     if s.len() != 6 {
-        return Field::Wrong;
+        return None;
     }
     if s[0] != b'V' {
-        return Field::Wrong;
+        return None;
     }
     pointed::read_pointed(&s[1..], 4095)
 }
@@ -43,21 +41,13 @@ pub fn read_front(s: &[u8]) -> Four
     ensures { ReadFront s.now result }
 {
     if s.len() != 19 {
-        return Four::Wrong(1);
+        return Err(Wrong(1));
     }
-    let Field::Value(focus) = codec::read_tagged(&s[0..8], b'D', 9999999) else {
-        return Four::Wrong(1);
-    };
-    let Field::Value(aperture) = codec::read_tagged(&s[8..13], b'T', 4095) else {
-        return Four::Wrong(2);
-    };
-    let Field::Value(stop) = read_stop(&s[13..17]) else {
-        return Four::Wrong(3);
-    };
-    let Field::Value(tenth) = codec::read_tagged(&s[17..19], b'+', 9) else {
-        return Four::Wrong(4);
-    };
-    Four::Found(focus, aperture, stop, tenth)
+    let focus = codec::read_tagged(&s[0..8], b'D', 9999999).ok_or(Wrong(1))?;
+    let aperture = codec::read_tagged(&s[8..13], b'T', 4095).ok_or(Wrong(2))?;
+    let stop = read_stop(&s[13..17]).ok_or(Wrong(3))?;
+    let tenth = codec::read_tagged(&s[17..19], b'+', 9).ok_or(Wrong(4))?;
+    Ok((focus, aperture, stop, tenth))
 }
 
 // Reads Z, H, N, F.
@@ -65,40 +55,26 @@ pub fn read_middle(s: &[u8]) -> Four
     ensures { ReadMiddle s.now result }
 {
     if s.len() != 29 {
-        return Four::Wrong(5);
+        return Err(Wrong(5));
     }
-    let Field::Value(focal) = codec::read_tagged(&s[0..5], b'Z', 1023) else {
-        return Four::Wrong(5);
-    };
-    let Field::Value(hyperfocal) = codec::read_tagged(&s[5..13], b'H', 9999999) else {
-        return Four::Wrong(6);
-    };
-    let Field::Value(near) = codec::read_tagged(&s[13..21], b'N', 9999999) else {
-        return Four::Wrong(7);
-    };
-    let Field::Value(far) = codec::read_tagged(&s[21..29], b'F', 9999999) else {
-        return Four::Wrong(8);
-    };
-    Four::Found(focal, hyperfocal, near, far)
+    let focal = codec::read_tagged(&s[0..5], b'Z', 1023).ok_or(Wrong(5))?;
+    let hyperfocal = codec::read_tagged(&s[5..13], b'H', 9999999).ok_or(Wrong(6))?;
+    let near = codec::read_tagged(&s[13..21], b'N', 9999999).ok_or(Wrong(7))?;
+    let far = codec::read_tagged(&s[21..29], b'F', 9999999).ok_or(Wrong(8))?;
+    Ok((focal, hyperfocal, near, far))
 }
 
 // Reads V and E, before a zoom that was read.
-pub fn with_zoom(s: &[u8], zoom: Field) -> Three
+pub fn with_zoom(s: &[u8], zoom: Option<u32>) -> Three
     ensures { WithZoom s.now zoom result }
 {
     if s.len() != 11 {
-        return Three::Wrong(9);
+        return Err(Wrong(9));
     }
-    let Field::Value(view) = read_view(&s[0..6]) else {
-        return Three::Wrong(9);
-    };
-    let Signed::Number(pupil) = pupil::read_pupil_text(&s[6..11]) else {
-        return Three::Wrong(10);
-    };
-    let Field::Value(thousandths) = zoom else {
-        return Three::Wrong(11);
-    };
-    Three::Found(view, pupil, thousandths)
+    let view = read_view(&s[0..6]).ok_or(Wrong(9))?;
+    let pupil = pupil::read_pupil_text(&s[6..11]).ok_or(Wrong(10))?;
+    let thousandths = zoom.ok_or(Wrong(11))?;
+    Ok((view, pupil, thousandths))
 }
 
 // Reads V, E, z.
@@ -106,17 +82,17 @@ pub fn read_back(s: &[u8]) -> Three
     ensures { ReadBack s.now result }
 {
     if s.len() != 16 {
-        return Three::Wrong(9);
+        return Err(Wrong(9));
     }
     with_zoom(&s[0..11], codec::read_tagged(&s[11..16], b'z', 1000))
 }
 
 // Reads the contents: 6 with the first wrong field.
-pub fn read_contents(s: &[u8]) -> RecordRead
+pub fn read_contents(s: &[u8]) -> Result<Record, Refusal>
     ensures { ReadContents s.now result }
 {
     if s.len() != TEXT_LENGTH {
-        return record::refused_record(Refusal::Contents(1));
+        return Err(Refusal::Contents(1));
     }
     let eleven = gather::gather(
         read_front(&s[0..19]),
@@ -127,11 +103,9 @@ pub fn read_contents(s: &[u8]) -> RecordRead
 }
 
 // Reads a message: its length, its end and its checksum, then its contents.
-pub fn read_text(m: &[u8], checksum: bool) -> RecordRead
+pub fn read_text(m: &[u8], checksum: bool) -> Result<Record, Refusal>
     ensures { ReadText m.now checksum result }
 {
-    match frame::open(m, TEXT_LENGTH, checksum) {
-        Verdict::Refused(r) => record::refused_record(r),
-        Verdict::Done => read_contents(&m[0..TEXT_LENGTH]),
-    }
+    frame::open(m, TEXT_LENGTH, checksum)?;
+    read_contents(&m[0..TEXT_LENGTH])
 }

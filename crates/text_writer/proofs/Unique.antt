@@ -4,7 +4,7 @@ use mathlib.Core.Bool.{Bool}
 use mathlib.Core.List.{List}
 use mathlib.Core.Path.{◌≡◌}
 use Rattle.laws.proofs.OneAnswer.{one_answer, one_outcome}
-use Rattle.frame.specs.declared.Wrote.{Wrote}
+use Rattle.refusal.specs.Answer.{Answer}
 use Rattle.record.specs.declared.Figures.{Figures}
 use Rattle.record.specs.declared.Record.{Record}
 use Rattle.text_writer.specs.Clauses.{PutTen, PutTextRecord, WriteText}
@@ -16,6 +16,6 @@ pub one_put_text_record : (out : List ℕ) (r : Record) {after after' : List ℕ
     PutTextRecord out r after → PutTextRecord out r after' → after ≡ after'
 one_put_text_record out r = one_answer
 
-pub one_write_text : (r : Record) (checksum : Bool) (out : List ℕ) {w w' : Wrote} {after after' : List ℕ} →
+pub one_write_text : (r : Record) (checksum : Bool) (out : List ℕ) {w w' : Answer ℕ} {after after' : List ℕ} →
     WriteText r checksum out w after → WriteText r checksum out w' after' → (w ≡ w') × (after ≡ after')
 one_write_text r checksum out = one_outcome

@@ -2,18 +2,16 @@
 // fields has a function that writes it.
 #![tactic(auto)]
 
-ghost use Rattle.std.specs.Prelude.{◌≡◌, ◌≤◌, length};
+ghost use Rattle.std.specs.Prelude.{◌≡◌};
 ghost use Rattle.laws.specs.Over.{over};
-ghost use Rattle.record.specs.Forms.{front_text, middle_text, ten_length, front_of, middle_of};
+ghost use Rattle.record.specs.Forms.{front_text, middle_text, front_of, middle_of};
 ghost use Rattle.text_writer.specs.Clauses.{PutTen, PutTextRecord, WriteText};
 
-use frame::Wrote;
 use record::{Figures, Record, TEN_LENGTH, TEXT_LENGTH};
 use refusal::Refusal;
 
 // Writes D, T, t, +.
-fn put_front(out: &mut [u8], f: Figures)
-    requires { ten_length ≤ length out.old }
+fn put_front(out: &mut [u8; TEN_LENGTH], f: Figures)
     ensures { out.new ≡ over out.old 0 (front_text.print (front_of f)) }
 {
     codec::put_tagged(out, 0, b'D', 7, f.focus);
@@ -24,8 +22,7 @@ fn put_front(out: &mut [u8], f: Figures)
 }
 
 // Writes Z, H, N, F.
-fn put_middle(out: &mut [u8], f: Figures)
-    requires { ten_length ≤ length out.old }
+fn put_middle(out: &mut [u8; TEN_LENGTH], f: Figures)
     ensures { out.new ≡ over out.old 19 (middle_text.print (middle_of f)) }
 {
     codec::put_tagged(out, 19, b'Z', 4, f.focal);
@@ -38,9 +35,9 @@ fn put_middle(out: &mut [u8], f: Figures)
 pub fn put_ten(out: &mut [u8], f: Figures)
     ensures { PutTen out.old f out.new }
 {
-    if out.len() < TEN_LENGTH {
+    let Some(out) = out.first_chunk_mut::<TEN_LENGTH>() else {
         return;
-    }
+    };
     put_front(out, f);
     put_middle(out, f);
     lent::put_byte(out, 48, b'V');
@@ -63,18 +60,14 @@ pub fn put_text_record(out: &mut [u8], r: Record)
 }
 
 // Writes the message of a record at the start of the lent memory.
-pub fn write_text(r: Record, checksum: bool, out: &mut [u8]) -> Wrote
+pub fn write_text(r: Record, checksum: bool, out: &mut [u8]) -> Result<usize, Refusal>
     ensures { WriteText r checksum out.old result out.new }
 {
-    let lowest = record::lowest_field(r);
-    if lowest != 0 {
-        return Wrote::Refused(Refusal::Field(lowest));
+    if let Some(lowest) = record::lowest_field(r) {
+        return Err(Refusal::Field(lowest));
     }
-    let answer = frame::room_for(out.len(), TEXT_LENGTH as u32, checksum);
-    let Wrote::Count(n) = answer else {
-        return answer;
-    };
+    let n = frame::room_for(out.len(), TEXT_LENGTH as u32, checksum)?;
     put_text_record(out, r);
     frame::put_ending(out, TEXT_LENGTH, checksum);
-    Wrote::Count(n)
+    Ok(n)
 }

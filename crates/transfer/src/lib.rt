@@ -3,59 +3,47 @@
 #![tactic(auto)]
 
 ghost use Rattle.std.specs.Prelude.{false, List, ◌≡◌, ℕ, length};
-ghost use Rattle.refusal.specs.Answer.{accepted, is_accepted};
+ghost use Rattle.refusal.specs.Answer.{is_accepted};
 ghost use Rattle.frame.specs.Message.{read_of, message_of, Moves};
 ghost use Rattle.record.specs.Forms.{text_form, packed_form, packed_length};
 ghost use Rattle.packed_bytes.specs.Bytes.{packed_record};
 ghost use Rattle.transfer.specs.Transfer.{turned_length};
 ghost use Rattle.transfer.specs.Clauses.{PackedToText, ByRecord, RecordToText};
 
-use frame::Wrote;
 use record::{PACKED_LENGTH, Record, TEXT_LENGTH};
-use refusal::{Refusal, Verdict};
+use refusal::Refusal;
 
 // Turns a packed message into the text message of the same record, by way of the record: 3, 4, 5 and 6 of the message, then 2.
-pub fn by_record(m: &[u8], checksum: bool, out: &mut [u8]) -> Wrote
+pub fn by_record(m: &[u8], checksum: bool, out: &mut [u8]) -> Result<usize, Refusal>
     ensures { ByRecord m.now checksum out.old result out.new }
 {
-    let read = packed_reader::read_packed(m, checksum);
-    let verdict = read.verdict;
-    match verdict {
-        Verdict::Refused(r) => Wrote::Refused(r),
-        Verdict::Done => text_writer::write_text(read.contents, checksum, out),
-    }
+    let record = packed_reader::read_packed(m, checksum)?;
+    text_writer::write_text(record, checksum, out)
 }
 
 // Why the reader refuses a message, where it does.
-fn refusal_of(m: &[u8], checksum: bool) -> Wrote
+fn refusal_of(m: &[u8], checksum: bool) -> Result<usize, Refusal>
     requires { is_accepted (read_of packed_form checksum m.now) ≡ false }
     ensures { (out : List ℕ) → PackedToText m.now checksum out result out }
 {
-    let read = packed_reader::read_packed(m, checksum);
-    let verdict = read.verdict;
-    match verdict {
-        Verdict::Refused(r) => Wrote::Refused(r),
-        Verdict::Done => Wrote::Count(0),
-    }
+    packed_reader::read_packed(m, checksum)?;
+    Ok(0)
 }
 
 // Writes the text message of packed contents: 2, else the text and its ending.
-fn put_message(out: &mut [u8], s: &[u8], checksum: bool) -> Wrote
+fn put_message(out: &mut [u8], s: &[u8], checksum: bool) -> Result<usize, Refusal>
     requires { length s.now ≡ packed_length }
-    ensures { Moves (turned_length checksum) (accepted (message_of text_form checksum (packed_record s.now)))
+    ensures { Moves (turned_length checksum) (Ok (message_of text_form checksum (packed_record s.now)))
         out.old result out.new }
 {
-    let answer = frame::room_for(out.len(), TEXT_LENGTH as u32, checksum);
-    let Wrote::Count(n) = answer else {
-        return answer;
-    };
+    let n = frame::room_for(out.len(), TEXT_LENGTH as u32, checksum)?;
     straight::put_contents(out, s);
     straight::end_text(out, checksum);
-    Wrote::Count(n)
+    Ok(n)
 }
 
 // Turns a packed message into the text message of the same record, straight.
-pub fn packed_to_text(m: &[u8], checksum: bool, out: &mut [u8]) -> Wrote
+pub fn packed_to_text(m: &[u8], checksum: bool, out: &mut [u8]) -> Result<usize, Refusal>
     ensures { PackedToText m.now checksum out.old result out.new }
 {
     if !packed_bytes::is_right(m, checksum) {
@@ -65,12 +53,11 @@ pub fn packed_to_text(m: &[u8], checksum: bool, out: &mut [u8]) -> Wrote
 }
 
 // Writes a record as text by way of its packed bytes: the text writer's message, with the digits of a host, which may divide.
-pub fn record_to_text(r: Record, checksum: bool, out: &mut [u8]) -> Wrote
+pub fn record_to_text(r: Record, checksum: bool, out: &mut [u8]) -> Result<usize, Refusal>
     ensures { RecordToText r checksum out.old result out.new }
 {
-    let lowest = record::lowest_field(r);
-    if lowest != 0 {
-        return Wrote::Refused(Refusal::Field(lowest));
+    if let Some(lowest) = record::lowest_field(r) {
+        return Err(Refusal::Field(lowest));
     }
     let mut packed = [0u8; PACKED_LENGTH];
     packed_writer::put_packed_record(&mut packed, r);

@@ -8,10 +8,11 @@ use native.Mathlib.Omega.{arith}
 use borrow.Author.Tests.{leb-true, le-leb, eqb-true, eq-eqb, ne_eqb, not-true}
 use lib.Dec.{leb, eqb}
 use lib.IntN.{ℤ}
+use Rattle.std.specs.Prelude.{Err, Ok}
 use Rattle.laws.proofs.Tests.{cond_yes, told, and_left, and_right, never}
 use Rattle.sign.proofs.Law.{size_signed}
 use Rattle.sign.specs.Sign.{size, below0}
-use Rattle.refusal.specs.declared.Verdict.TheVariants.{Done, Refused}
+use Rattle.refusal.specs.Answer.{Verdict}
 use Rattle.refusal.specs.declared.Refusal.{Refusal}
 use Rattle.codec.specs.Codec.{failing, first, text_ok}
 use Rattle.codec.proofs.Exact.{holds, fine, first_zero, zero_first}
@@ -132,7 +133,7 @@ module _ (unit wanted top most top' most' : ℕ) (t : top ≤ top_distance) (m :
 
 -- ---- the measurement
 
-done_told : (b c : Bool) (x y : Refusal) → cond b (cond c Done (Refused x)) (Refused y) ≡ Done → (b ≡ true) × (c ≡ true)
+done_told : (b c : Bool) (x y : Refusal) → ◌≡◌ {A = Verdict} (cond b (cond c (Ok tt) (Err x)) (Err y)) (Ok tt) → (b ≡ true) × (c ≡ true)
 done_told true true x y e = (refl, refl)
 done_told true false x y e = never (cc)
 done_told false c x y e = never (cc)
@@ -142,14 +143,14 @@ pub record Accepted (m : Measurement) : Type 0 where
   pub letter : is_unit m.unit ≡ true
   pub figures : figures_lowest (top_in m.unit) (most_in m.unit) m.figures ≡ 0
 
-pub accepted_told : (m : Measurement) → measurement_verdict m ≡ Done → Accepted m
+pub accepted_told : (m : Measurement) → measurement_verdict m ≡ Ok tt → Accepted m
 unfolding measurement_verdict measurement_lowest
 accepted_told m h =
     let p = done_told (is_unit m.unit) (eqb (measurement_lowest m) 0) _ _ h in
     record { letter = p.0; figures = (first_zero _ _ (eqb-true (measurement_lowest m) 0 p.1)).0 }
 
 pub sendable_in_either_unit : (m : Measurement) (display : ℕ) (serial : List ℕ) →
-    measurement_verdict m ≡ Done → is_unit display ≡ true → text_ok 9 serial ≡ true →
+    measurement_verdict m ≡ Ok tt → is_unit display ≡ true → text_ok 9 serial ≡ true →
     record_lowest (record_in display m serial) ≡ 0
 unfolding record_lowest record_in
 sendable_in_either_unit m display serial done d s =

@@ -4,13 +4,12 @@ use mathlib.Core.List.{List}
 use mathlib.Core.Path.{◌≡◌}
 use lib.IntN.{ℤ}
 use Rattle.laws.proofs.OneAnswer.{one_answer}
-use Rattle.refusal.specs.declared.Verdict.{Verdict}
+use Rattle.refusal.specs.Answer.{Answer, Verdict}
 use Rattle.record.specs.declared.Record.{Record}
 use Rattle.units.specs.Clauses.{Convert, CheckMeasurement, RecordOf}
-use Rattle.units.specs.declared.Converted.{Converted}
 use Rattle.units.specs.declared.Measurement.{Measurement}
 
-pub one_convert : (field : ℕ) (number : ℤ) (unit wanted : ℕ) {r r' : Converted} →
+pub one_convert : (field : ℕ) (number : ℤ) (unit wanted : ℕ) {r r' : Answer ℤ} →
     Convert field number unit wanted r → Convert field number unit wanted r' → r ≡ r'
 one_convert field number unit wanted = one_answer
 

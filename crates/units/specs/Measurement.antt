@@ -1,11 +1,10 @@
 -- What a measurement may hold, how P shows its temperature, and the record that it gives in a display unit.
-use Rattle.std.specs.Prelude.{ℕ, Bool, ◌&&◌, cond, List, [], ◌∷◌, leb, eqb, ℤ, pos, negsuc}
+use Rattle.std.specs.Prelude.{ℕ, Bool, ◌&&◌, cond, List, [], ◌∷◌, leb, eqb, ℤ, pos, negsuc, Err, Ok}
 use Rattle.std.specs.Int.Signed.{le_z}
+use Rattle.refusal.specs.Answer.{Verdict}
 use Rattle.digits.specs.Digits.{decimal}
 use Rattle.sign.specs.Sign.{size, below0}
 use Rattle.refusal.specs.declared.Refusal.TheVariants.{Field}
-use Rattle.refusal.specs.declared.Verdict.{Verdict}
-use Rattle.refusal.specs.declared.Verdict.TheVariants.{Done, Refused}
 use Rattle.codec.specs.Codec.{failing, first}
 use Rattle.record.specs.Record.{top_distance, top_pupil, figures_lowest}
 use Rattle.record.specs.declared.Figures.{Figures}
@@ -30,8 +29,8 @@ measurement_lowest m =
 unfoldable pub measurement_verdict : Measurement → Verdict
 measurement_verdict m =
     cond (is_unit m.unit)
-    (cond (eqb (measurement_lowest m) 0) Done (Refused (Field (measurement_lowest m))))
-    (Refused (Field 0))
+    (cond (eqb (measurement_lowest m) 0) (Ok tt) (Err (Field (measurement_lowest m))))
+    (Err (Field 0))
 
 -- a distance and the pupil in the display unit; one out of every range counts as 0, and no accepted measurement has one
 unfoldable pub shown_distance : ℕ → ℕ → ℕ → ℕ

@@ -1,6 +1,5 @@
 -- What a record in the display unit holds of an accepted measurement. Statements only.
-use Rattle.std.specs.Prelude.{ℕ, true, List, ◌≡◌, pos}
-use Rattle.refusal.specs.declared.Verdict.TheVariants.{Done}
+use Rattle.std.specs.Prelude.{ℕ, true, List, ◌≡◌, pos, Ok}
 use Rattle.record.specs.declared.Figures.{Figures}
 use Rattle.units.specs.Units.{is_unit, Converts}
 use Rattle.units.specs.Measurement.{measurement_verdict, record_in}
@@ -22,5 +21,5 @@ pub record Shows (unit display : ℕ) (f g : Figures) : Type 0 where
 
 -- no field of an accepted measurement is shown as the 0 of one out of every range
 abbrev pub RecordShows : Type 0
-RecordShows = (m : Measurement) (display : ℕ) (serial : List ℕ) → measurement_verdict m ≡ Done → is_unit display ≡ true →
+RecordShows = (m : Measurement) (display : ℕ) (serial : List ℕ) → measurement_verdict m ≡ Ok tt → is_unit display ≡ true →
     Shows m.unit display m.figures (record_in display m serial).figures × ((record_in display m serial).serial ≡ serial)

@@ -1,10 +1,8 @@
 -- When the conversion and the check of a measurement refuse: 1, exactly in its case and with its value. Statements only.
-use Rattle.std.specs.Prelude.{ℕ, ◌≤◌, ◌↔◌, ◌⊎◌, ◌≡◌, ℤ, pos}
+use Rattle.std.specs.Prelude.{ℕ, ◌≤◌, ◌↔◌, ◌⊎◌, ◌≡◌, ℤ, pos, Err}
 use Rattle.sign.specs.Sign.{size}
-use Rattle.refusal.specs.Answer.{refused}
 use Rattle.refusal.specs.declared.Refusal.{Refusal}
 use Rattle.refusal.specs.declared.Refusal.TheVariants.{Field}
-use Rattle.refusal.specs.declared.Verdict.TheVariants.{Refused}
 use Rattle.codec.specs.Ranges.{FirstOut}
 use Rattle.units.specs.Units.{top_in, most_in, conversion}
 use Rattle.units.specs.Measurement.{measurement_verdict}
@@ -30,5 +28,5 @@ abbrev pub CheckWhen : Measurement → Refusal → Type 0
 CheckWhen m r = ((UnitLetter m.unit → ⊥) × (r ≡ Field 0)) ⊎ (UnitLetter m.unit × ((i : ℕ) × FirstOut (measurement_ranges m) i × (r ≡ Field i)))
 
 pub record UnitsRefuse : Type 0 where
-  pub convert_when : (i : ℕ) (z : ℤ) (unit wanted : ℕ) (r : Refusal) → (conversion i z unit wanted ≡ refused r) ↔ ConvertWhen i z unit wanted r
-  pub check_when : (m : Measurement) (r : Refusal) → (measurement_verdict m ≡ Refused r) ↔ CheckWhen m r
+  pub convert_when : (i : ℕ) (z : ℤ) (unit wanted : ℕ) (r : Refusal) → (conversion i z unit wanted ≡ Err r) ↔ ConvertWhen i z unit wanted r
+  pub check_when : (m : Measurement) (r : Refusal) → (measurement_verdict m ≡ Err r) ↔ CheckWhen m r

@@ -1,11 +1,9 @@
 -- The two units, how far numbers reach in each, and the conversion between them. Letters stand as their bytes: 73 is I, 77 is M.
-use Rattle.std.specs.Prelude.{ℕ, ◌+◌, ◌*◌, ◌/◌, ◌≤◌, ◌<◌, Bool, false, not, ◌&&◌, ◌||◌, cond, ◌≡◌, leb, eqb, ℤ}
+use Rattle.std.specs.Prelude.{ℕ, ◌+◌, ◌*◌, ◌/◌, ◌≤◌, ◌<◌, Bool, false, not, ◌&&◌, ◌||◌, cond, ◌≡◌, leb, eqb, ℤ, Ok}
+use Rattle.refusal.specs.Answer.{Answer, unless}
 use Rattle.sign.specs.Sign.{size, below0, signed_of}
-use Rattle.refusal.specs.Answer.{Answer, accepted, refused, unless}
 use Rattle.refusal.specs.declared.Refusal.TheVariants.{Field}
 use Rattle.record.specs.Record.{top_distance, top_pupil}
-use Rattle.units.specs.declared.Converted.{Converted}
-use Rattle.units.specs.declared.Converted.TheVariants.{Value, Refused}
 
 -- I: 0.1 inch, M: 1 mm
 abbrev pub is_unit : ℕ → Bool
@@ -77,9 +75,4 @@ pub record Distance (z : ℤ) : Type 0 where
 -- the letters first, then the field asked for
 unfoldable pub conversion : ℕ → ℤ → ℕ → ℕ → Answer ℤ
 conversion i z unit wanted =
-    unless (is_unit unit && is_unit wanted) (Field 0) (unless (in_range i z unit) (Field i) (accepted (number_in unit wanted z)))
-
--- the same, as the code answers it
-abbrev pub converted_of : Answer ℤ → Converted
-converted_of (accepted z) = Value z
-converted_of (refused r) = Refused r
+    unless (is_unit unit && is_unit wanted) (Field 0) (unless (in_range i z unit) (Field i) (Ok (number_in unit wanted z)))

@@ -3,31 +3,25 @@
 #![tactic(auto)]
 
 ghost use Rattle.std.specs.Prelude.{◌≡◌, ◌≤◌};
-ghost use Rattle.refusal.specs.Answer.{accepted, unless};
+ghost use Rattle.refusal.specs.Answer.{unless};
 ghost use Rattle.refusal.specs.declared.Refusal.TheVariants.{Field};
 ghost use Rattle.sign.specs.Sign.{size};
+ghost use Rattle.codec.specs.Codec.{lowest_named};
 ghost use Rattle.record.specs.Record.{top_distance, top_pupil};
-ghost use Rattle.units.specs.Units.{is_unit, by_unit, top_in, most_in, size_in, number_in, is_distance, in_range, Distance, converted_of};
+ghost use Rattle.units.specs.Units.{is_unit, by_unit, top_in, most_in, size_in, number_in, is_distance, in_range, Distance};
 ghost use Rattle.units.specs.Measurement.{temperature_ok, measurement_lowest, shown_distance, shown_pupil, figures_in};
 ghost use Rattle.units.specs.Clauses.{Convert, CheckMeasurement, RecordOf};
 
 use record::{Figures, Record};
-use refusal::{Refusal, Verdict};
+use refusal::Refusal;
 
 #[derive(Clone, Copy)]
 pub struct Measurement {
-    // I or M: the unit of fields 1, 6, 7, 8 and 10
+    // I or M, the unit of fields 1, 6, 7, 8 and 10; a byte, since any other is refused by 1 (check_measurement)
     pub unit: u8,
     pub figures: Figures,
     // in degrees
     pub temperature: i32,
-}
-
-// What the conversion answers.
-#[derive(Clone, Copy)]
-pub enum Converted {
-    Value(i32),
-    Refused(Refusal),
 }
 
 // ---- the units
@@ -35,7 +29,7 @@ pub enum Converted {
 fn is_unit(u: u8) -> bool
     ensures { result ≡ is_unit u }
 {
-    (u == b'I') | (u == b'M')
+    matches!(u, b'I' | b'M')
 }
 
 // The first for I, the second for M.
@@ -108,7 +102,7 @@ fn distance_in(unit: u8, wanted: u8, d: i32) -> i32
 fn is_distance(field: u32) -> bool
     ensures { result ≡ is_distance field }
 {
-    ((field == 1) | (field == 6)) | ((field == 7) | (field == 8))
+    matches!(field, 1 | 6 | 7 | 8)
 }
 
 // Whether the field is one that is converted, and the number in its unit's range.
@@ -128,29 +122,29 @@ fn in_range(field: u32, number: i32, unit: u8) -> bool
 }
 
 // A number of a field, where the letters are right. (Called with a letter that is known: each unit has its own code.)
-fn convert_from(field: u32, number: i32, unit: u8, wanted: u8) -> Converted
-    ensures { result ≡ converted_of (unless (in_range field number unit) (Field field) (accepted (number_in unit wanted number))) }
+fn convert_from(field: u32, number: i32, unit: u8, wanted: u8) -> Result<i32, Refusal>
+    ensures { result ≡ unless (in_range field number unit) (Field field) (Ok (number_in unit wanted number)) }
 {
     if !in_range(field, number, unit) {
-        return Converted::Refused(Refusal::Field(field));
+        return Err(Refusal::Field(field));
     }
     if field == 10 {
-        return Converted::Value(pupil_in(unit, wanted, number));
+        return Ok(pupil_in(unit, wanted, number));
     }
-    Converted::Value(distance_in(unit, wanted, number))
+    Ok(distance_in(unit, wanted, number))
 }
 
 // A number of a field in the wanted unit.
-pub fn convert(field: u32, number: i32, unit: u8, wanted: u8) -> Converted
+pub fn convert(field: u32, number: i32, unit: u8, wanted: u8) -> Result<i32, Refusal>
     ensures { Convert field number unit wanted result }
 {
     if !is_unit(wanted) {
-        return Converted::Refused(Refusal::Field(0));
+        return Err(Refusal::Field(0));
     }
     match unit {
         b'I' => convert_from(field, number, b'I', wanted),
         b'M' => convert_from(field, number, b'M', wanted),
-        _ => Converted::Refused(Refusal::Field(0)),
+        _ => Err(Refusal::Field(0)),
     }
 }
 
@@ -159,40 +153,37 @@ pub fn convert(field: u32, number: i32, unit: u8, wanted: u8) -> Converted
 fn temperature_ok(t: i32) -> bool
     ensures { result ≡ temperature_ok t }
 {
-    (-99 <= t) & (t <= 199)
+    (-99..=199).contains(&t)
 }
 
-// The lowest of fields 1 to 11, then 13, that is out of range, or 0.
-fn lowest_of(m: Measurement) -> u32
-    ensures { result ≡ measurement_lowest m }
+// The lowest of fields 1 to 11, then 13, that is out of range.
+fn lowest_of(m: Measurement) -> Option<u32>
+    ensures { result ≡ lowest_named (measurement_lowest m) }
 {
-    let figures = m.figures;
-    let lowest = record::lowest_figure(figures, top_in(m.unit), most_in(m.unit));
-    if lowest != 0 {
+    let lowest = record::lowest_figure(m.figures, top_in(m.unit), most_in(m.unit));
+    if lowest.is_some() {
         return lowest;
     }
-    let t = m.temperature;
-    if !temperature_ok(t) {
-        return 13;
+    if !temperature_ok(m.temperature) {
+        return Some(13);
     }
-    0
+    None
 }
 
 // Whether a measurement may be taken.
-pub fn check_measurement(m: Measurement) -> Verdict
+pub fn check_measurement(m: Measurement) -> Result<(), Refusal>
     ensures { CheckMeasurement m result }
 {
     if !is_unit(m.unit) {
-        return Verdict::Refused(Refusal::Field(0));
+        return Err(Refusal::Field(0));
     }
-    let lowest = lowest_of(m);
-    if lowest != 0 {
-        return Verdict::Refused(Refusal::Field(lowest));
+    if let Some(lowest) = lowest_of(m) {
+        return Err(Refusal::Field(lowest));
     }
-    Verdict::Done
+    Ok(())
 }
 
-// A distance in the display unit; 0 for one out of every range.
+// A distance in the display unit; 0 for one out of every range, which no accepted measurement has.
 fn shown_distance(unit: u8, display: u8, n: u32) -> u32
     ensures { result ≡ shown_distance unit display n }
 {
@@ -202,7 +193,7 @@ fn shown_distance(unit: u8, display: u8, n: u32) -> u32
     size_in(unit, display, n)
 }
 
-// The pupil in the display unit; 0 for one out of every range.
+// The pupil in the display unit; 0 for one out of every range, which none has either.
 fn shown_pupil(unit: u8, display: u8, e: i32) -> i32
     ensures { result ≡ shown_pupil unit display e }
 {
@@ -216,7 +207,6 @@ fn shown_pupil(unit: u8, display: u8, e: i32) -> i32
 fn figures_in(f: Figures, unit: u8, display: u8) -> Figures
     ensures { result ≡ figures_in unit display f }
 {
-    let e = f.pupil;
     Figures {
         focus: shown_distance(unit, display, f.focus),
         aperture: f.aperture,
@@ -227,7 +217,7 @@ fn figures_in(f: Figures, unit: u8, display: u8) -> Figures
         near: shown_distance(unit, display, f.near),
         far: shown_distance(unit, display, f.far),
         view: f.view,
-        pupil: shown_pupil(unit, display, e),
+        pupil: shown_pupil(unit, display, f.pupil),
         zoom: f.zoom,
     }
 }
@@ -236,7 +226,6 @@ fn figures_in(f: Figures, unit: u8, display: u8) -> Figures
 pub fn record_of(m: Measurement, display: u8, serial: [u8; 9]) -> Record
     ensures { RecordOf m display serial result }
 {
-    let f = m.figures;
-    let figures = figures_in(f, m.unit, display);
+    let figures = figures_in(m.figures, m.unit, display);
     Record { figures, serial }
 }

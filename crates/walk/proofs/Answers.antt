@@ -5,33 +5,31 @@ use mathlib.Core.Bool.{true}
 use mathlib.Core.List.{[], ◌∷◌}
 use mathlib.Core.Logic.Iff
 use mathlib.Core.Logic.{◌↔◌, ◌⊎◌, inl, inr, ◌≢◌}
-use mathlib.Core.Option.{Option}
+use mathlib.Core.Option.{Option, some}
 use mathlib.Core.Path.{◌≡◌, refl, sym, ap, subst, ◌∙◌}
 use native.Mathlib.Omega.{arith}
 use lib.Dec.{eqb}
 use lib.ListN.{length}
+use Rattle.std.specs.Prelude as std
+use Rattle.std.specs.Prelude.{None, Some, is_some, Ok, Err}
 use Rattle.laws.proofs.Tests.{cond_yes, by, never}
+use Rattle.refusal.specs.Answer.{Answer, Verdict}
 use Rattle.machine.specs.Machine.{Kind, State, port, Choice, choice, rules, Out, grew, took, dropped, idles, begin, on_slot, received, slot, shows, sent_in}
 use Rattle.refusal.specs.declared.Refusal.{Refusal}
 use Rattle.refusal.specs.declared.Refusal.TheVariants as refusal
-use Rattle.refusal.specs.declared.Verdict.{Verdict}
-use Rattle.refusal.specs.declared.Verdict.TheVariants.{Done, Refused}
 use Rattle.units.specs.Units.{is_unit}
 use Rattle.units.specs.Measurement.{measurement_lowest, measurement_verdict}
 use Rattle.units.specs.declared.Measurement.{Measurement}
 use Rattle.line.specs.declared.Line.{Line}
 use Rattle.line.specs.Line.{ends}
-use Rattle.state.specs.declared.Waiting.{Waiting}
 use Rattle.rules.specs.Lens.{lens}
 use Rattle.port.specs.declared.Port.{Port}
-use Rattle.port.specs.declared.Sent.{Sent}
-use Rattle.port.specs.declared.Sent.TheVariants as sent
 use Rattle.port.specs.Port.{valid_port, slot_of, receive_of}
 use Rattle.port.proofs.Valid.{slot_fine}
 use Rattle.port.proofs.Cases.{judged_measure}
 use Rattle.fill.specs.declared.Filled.{Filled}
 use Rattle.fill.specs.Fill.{SlotRun, then_run, run_of, fill_of}
-use Rattle.walk.specs.View.{view, bytes_of}
+use Rattle.walk.specs.View.{waits_of, view, bytes_of}
 use Rattle.walk.specs.Calls.{Held, view_of, ran_by, ran}
 use Rattle.walk.specs.Answers.{verdict_of, Answers}
 use Rattle.walk.proofs.Slot.{waits_some, slot_acts}
@@ -44,73 +42,79 @@ use Rattle.walk.proofs.Messages.{all_start}
 
 -- ---- a received byte
 
-seven : (x : State lens) (b : ℕ) → (verdict_of (shows x (received b)) ≡ Refused refusal.Dropped) ↔ (shows x (received b) ≡ dropped)
+seven : (x : State lens) (b : ℕ) → (verdict_of (shows x (received b)) ≡ Err refusal.Dropped) ↔ (shows x (received b) ≡ dropped)
 seven x b =
-    by_byte (λ o. (verdict_of o ≡ Refused refusal.Dropped) ↔ (o ≡ dropped)) x b
-    (λ e. never (cc), λ e. never (cc))
-    (λ c. (λ e. never (cc), λ e. never (cc)))
+    by_byte (λ o. (verdict_of o ≡ Err refusal.Dropped) ↔ (o ≡ dropped)) x b
+    (λ e. never cc, λ e. never cc)
+    (λ c. (λ e. never cc, λ e. never cc))
     (λ e. refl, λ e. refl)
 
 abbrev Well : Out lens → Type 0
 Well o = (o ≡ grew) ⊎ ((c : Line) × (o ≡ took c))
 
-done : (x : State lens) (b : ℕ) → (verdict_of (shows x (received b)) ≡ Done) ↔ Well (shows x (received b))
+not_well : Well dropped → ◌≡◌ {A = Verdict} (Err refusal.Dropped) (Ok tt)
+not_well (inl e) = never cc
+not_well (inr (c, e)) = never cc
+
+done : (x : State lens) (b : ℕ) → (verdict_of (shows x (received b)) ≡ Ok tt) ↔ Well (shows x (received b))
 done x b =
-    by_byte (λ o. (verdict_of o ≡ Done) ↔ Well o) x b
+    by_byte (λ o. (verdict_of o ≡ Ok tt) ↔ Well o) x b
     (λ e. inl refl, λ e. refl)
     (λ c. (λ e. inr (c, refl), λ e. refl))
-    (λ e. never (cc), λ w. not_well w)
-  where
-    not_well : Well dropped → Refused refusal.Dropped ≡ Done
-    not_well (inl e) = never (cc)
-    not_well (inr (c, e)) = never (cc)
+    (λ e. never cc, not_well)
 
-not_16 : (x : State lens) (b : ℕ) → verdict_of (shows x (received b)) ≢ Refused refusal.State
-not_16 x b = by_byte (λ o. verdict_of o ≢ Refused refusal.State) x b (λ e. never (cc)) (λ c e. never (cc)) (λ e. never (cc))
+not_16 : (x : State lens) (b : ℕ) → verdict_of (shows x (received b)) ≢ Err refusal.State
+not_16 x b = by_byte (λ o. verdict_of o ≢ Err refusal.State) x b (λ e. never cc) (λ c e. never cc) (λ e. never cc)
+
+some_waits : (w : std.Option Line) → is_some w ≡ true → (c : Line) × (waits_of w ≡ some c)
+some_waits (Some c) e = (c, refl)
+some_waits None e = never cc
 
 -- dropped exactly where the line ends while a command waits: as promised
-dropped_where : (h : Held) (b : ℕ) → Reached h → (shows (view_of h) (received b) ≡ dropped) ↔ ((ends h.line b ≡ true) × (h.port.waiting.some ≡ true))
+dropped_where : (h : Held) (b : ℕ) → Reached h → (shows (view_of h) (received b) ≡ dropped) ↔ ((ends h.line b ≡ true) × (is_some h.port.waiting ≡ true))
 unfolding view
 dropped_where h b r = (
   λ e.
       let f = (here r).dropped_only (received b) e in
       let same : b ≡ f.0 = cc in
-      (subst (λ (d : ℕ). ends h.line d ≡ true) (sym same) f.2, ap (λ (w : Waiting). w.some) (waits_some h.port.waiting f.3 f.4)),
-  λ e. (here r).dropped_if_not b h.port.waiting.line e.0 (cond_yes _ _ e.1),
+      (subst (λ (d : ℕ). ends h.line d ≡ true) (sym same) f.2, ap is_some (waits_some h.port.waiting f.3 f.4)),
+  λ e.
+      let w = some_waits h.port.waiting e.1 in
+      (here r).dropped_if_not b w.0 e.0 w.1,
 )
 
 -- ---- a slot
 
-pub one_byte : (t : Sent) (b : ℕ) → bytes_of t ≡ b ∷ [] → t ≡ sent.Byte b
-one_byte (sent.Byte c) b e = cc
-one_byte sent.Idle b e = never (cc)
-one_byte (sent.Refused r) b e = never (cc)
+pub one_byte : (t : Answer (std.Option ℕ)) (b : ℕ) → bytes_of t ≡ b ∷ [] → t ≡ Ok (Some b)
+one_byte (Ok (Some c)) b e = cc
+one_byte (Ok None) b e = never cc
+one_byte (Err r) b e = never cc
 
-no_byte : (t : Sent) → ((r : Refusal) → t ≡ sent.Refused r → ⊥) → bytes_of t ≡ [] → t ≡ sent.Idle
-no_byte (sent.Byte c) f e = never (cc)
-no_byte sent.Idle f e = refl
-no_byte (sent.Refused r) f e = absurd (f r refl)
+no_byte : (t : Answer (std.Option ℕ)) → ((r : Refusal) → t ≡ Err r → ⊥) → bytes_of t ≡ [] → t ≡ Ok None
+no_byte (Ok (Some c)) f e = never cc
+no_byte (Ok None) f e = refl
+no_byte (Err r) f e = absurd (f r refl)
 
 -- a slot of the machine that sends nothing idles
 begin_quiet : (c : Choice lens) (k : Kind) (l : Line) → sent_in (begin c k l).1 ≡ [] → (a : Option Line) × ((begin c k l).1 ≡ idles a)
 unfolding begin
 begin_quiet (choice a m w k []) before l e = (a, refl)
-begin_quiet (choice a m w k (b ∷ bs)) before l e = never (cc)
+begin_quiet (choice a m w k (b ∷ bs)) before l e = never cc
 
 quiet : (x : State lens) → sent_in (shows x slot) ≡ [] → (a : Option Line) × (shows x slot ≡ idles a)
 unfolding on_slot
-quiet (port m w (b ∷ bs) k l) e = never (cc)
+quiet (port m w (b ∷ bs) k l) e = never cc
 quiet (port m w [] k l) e = begin_quiet (rules lens m w k) k l e
 
 -- ---- a measurement, a fill
 
-in_range_lem : (m : Measurement) → measurement_verdict m ≢ Refused refusal.State
+in_range_lem : (m : Measurement) → measurement_verdict m ≢ Err refusal.State
 unfolding measurement_verdict
 in_range_lem m =
-    let P : Verdict → Type 0 = λ v. v ≢ Refused refusal.State in
-    by P (is_unit m.unit) _ _ (λ y. by P (eqb (measurement_lowest m) 0) _ _ (λ z e. never (cc)) (λ z e. never (cc))) (λ n e. never (cc))
+    let P : Verdict → Type 0 = λ v. v ≢ Err refusal.State in
+    by P (is_unit m.unit) _ _ (λ y. by P (eqb (measurement_lowest m) 0) _ _ (λ z e. never cc) (λ z e. never cc)) (λ n e. never cc)
 
-filled : (p : Port) (n : ℕ) → valid_port p ≡ true → fill_of p n ≡ record { verdict = Done; count = length (run_of n p).bytes; port = (run_of n p).port }
+filled : (p : Port) (n : ℕ) → valid_port p ≡ true → fill_of p n ≡ record { verdict = Ok tt; count = length (run_of n p).bytes; port = (run_of n p).port }
 unfolding fill_of
 filled p n v = cond_yes _ _ v
 
@@ -119,10 +123,10 @@ record Told (n count slots : ℕ) : Type 0 where
   full : count ≡ n → slots ≡ count
   short : count < n → slots ≡ suc count
 
-goes_on : (t : Sent) (q : Port) (r : SlotRun) (n k : ℕ) → Told n (length r.bytes) k → Told (suc n) (length (then_run t q r).bytes) (ran_by t k)
-goes_on (sent.Byte b) q r n k e = record { full = λ x. ap suc (e.full (omega arith)); short = λ x. ap suc (e.short (omega arith)) }
-goes_on sent.Idle q r n k e = record { full = λ x. absurd (omega arith); short = λ x. refl }
-goes_on (sent.Refused z) q r n k e = record { full = λ x. absurd (omega arith); short = λ x. refl }
+goes_on : (t : Answer (std.Option ℕ)) (q : Port) (r : SlotRun) (n k : ℕ) → Told n (length r.bytes) k → Told (suc n) (length (then_run t q r).bytes) (ran_by t k)
+goes_on (Ok (Some b)) q r n k e = record { full = λ x. ap suc (e.full (omega arith)); short = λ x. ap suc (e.short (omega arith)) }
+goes_on (Ok None) q r n k e = record { full = λ x. absurd (omega arith); short = λ x. refl }
+goes_on (Err z) q r n k e = record { full = λ x. absurd (omega arith); short = λ x. refl }
 
 ran_told : (n : ℕ) (p : Port) → Told n (length (run_of n p).bytes) (ran n p)
 unfolding ran run_of
@@ -168,5 +172,5 @@ answers = record {
     sends : (h : Held) → Reached h → bytes_of (slot_of h.port).sent ≡ sent_in (shows (view_of h) slot)
     sends h r = walks.slot_sends h.port h.line r.sound
 
-    fine : (h : Held) → Reached h → (r : Refusal) → (slot_of h.port).sent ≢ sent.Refused r
+    fine : (h : Held) → Reached h → (r : Refusal) → (slot_of h.port).sent ≢ Err r
     fine h r = (slot_fine h.port r.sound.valid).answers

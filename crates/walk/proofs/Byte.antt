@@ -3,29 +3,32 @@ use Prim.Native.Nat.{ℕ}
 use mathlib.Core.Bool.{Bool, true, cond}
 use mathlib.Core.Option.{none, some}
 use mathlib.Core.Path.{◌≡◌, refl, sym, subst}
+use Rattle.std.specs.Prelude as std
+use Rattle.std.specs.Prelude.{None, Some, is_some, Ok, Err}
 use Rattle.laws.proofs.Tests.{and_both, told, by}
 use Rattle.machine.specs.Machine.{State, port, Out, grew, took, dropped, on_return, on_other, on_byte, received, shows}
 use Rattle.refusal.specs.declared.Refusal.TheVariants as refusal
-use Rattle.refusal.specs.declared.Verdict.TheVariants.{Done, Refused}
 use Rattle.line.specs.declared.Line.{Line}
 use Rattle.line.specs.Line.{blank, ends, joined, valid_line}
 use Rattle.rules.specs.Lens.{lens}
 use Rattle.port.specs.declared.Port.{Port}
 use Rattle.port.specs.declared.Received.{Received}
 use Rattle.port.specs.Port.{taken_port, taken_of, receive_of}
-use Rattle.walk.specs.View.{kind_of, left_of, view}
+use Rattle.walk.specs.View.{kind_of, waits_of, left_of, view}
 use Rattle.walk.specs.Walk.{Sound}
 use Rattle.walk.specs.Answers.{verdict_of}
 
 taken_shows : (p : Port) (l : Line) → (taken_of p l).verdict ≡ verdict_of (on_return (view p l)).1
 unfolding taken_of view on_return
-taken_shows p l =
-    let P : Bool → Type 0 = λ b.
-    (let x : Received = cond b (record { verdict = Refused refusal.Dropped; port = p; line = blank }) (record { verdict = Done; port = taken_port p l; line = blank }) in
-    x.verdict ≡ verdict_of (on_return (port p.source (cond b (some p.waiting.line) none) (left_of p.message) (kind_of p.last) l)).1) in
-    told p.waiting.some (λ y. subst P (sym y) refl) (λ n. subst P (sym n) refl)
+taken_shows p l = by_waiting p.waiting
+  where
+    by_waiting : (w : std.Option Line) →
+        let x : Received = cond (is_some w) (record { verdict = Err refusal.Dropped; port = p; line = blank }) (record { verdict = Ok tt; port = taken_port p l; line = blank }) in
+        x.verdict ≡ verdict_of (on_return (port p.source (waits_of w) (left_of p.message) (kind_of p.last) l)).1
+    by_waiting (Some c) = refl
+    by_waiting None = refl
 
-joined_shows : (p : Port) (l : Line) (b : ℕ) → Done ≡ verdict_of (on_other (view p l) b).1
+joined_shows : (p : Port) (l : Line) (b : ℕ) → Ok tt ≡ verdict_of (on_other (view p l) b).1
 unfolding view on_other
 joined_shows p l b = refl
 
@@ -33,7 +36,7 @@ pub byte_shows : (p : Port) (l : Line) (b : ℕ) → Sound p → valid_line l �
 unfolding receive_of on_byte view
 byte_shows p l b s v =
     let P : Bool → Type 0 = λ t.
-    (let x : Received = cond t (taken_of p l) (record { verdict = Done; port = p; line = joined l b }) in
+    (let x : Received = cond t (taken_of p l) (record { verdict = Ok tt; port = p; line = joined l b }) in
     x.verdict ≡ verdict_of (cond t (on_return (view p l)) (on_other (view p l) b)).1) in
     rw (and_both s.valid v)
     (told (ends l b) (λ y. subst P (sym y) (taken_shows p l)) (λ n. subst P (sym n) (joined_shows p l b)))

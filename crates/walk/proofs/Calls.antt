@@ -5,12 +5,13 @@ use mathlib.Core.List.{List, [], ◌∷◌, ◌++◌, append-nil}
 use mathlib.Core.Option.{none, some}
 use mathlib.Core.Path.{◌≡◌, refl, sym, ap, ap₂, subst, ◌∙◌}
 use lib.ListN.{length, replicate}
+use Rattle.std.specs.Prelude.{Option, None, Some, is_some, Ok, Err}
 use Rattle.laws.proofs.OverLaws.{length_over}
 use Rattle.laws.proofs.Tests.{cond_yes, by}
+use Rattle.refusal.specs.Answer.{Answer}
 use Rattle.machine.specs.Machine.{State, port, Out, on_byte, on_return, on_other, on_given, Events, received, slot, given, shows, run, sent, sent_in, start}
 use Rattle.machine.specs.Promised.{Promised}
 use Rattle.machine.proofs.Use.{run_append, seen_append}
-use Rattle.refusal.specs.declared.Verdict.TheVariants.{Done}
 use Rattle.fixed.specs.declared.Settings.{Settings}
 use Rattle.units.specs.Measurement.{measurement_verdict}
 use Rattle.units.specs.declared.Measurement.{Measurement}
@@ -28,9 +29,7 @@ use Rattle.rules.proofs.Kept.{turned_same}
 use Rattle.port.specs.declared.Port.{Port}
 use Rattle.port.specs.declared.Handed.{Handed}
 use Rattle.port.specs.declared.Received.{Received}
-use Rattle.port.specs.declared.Sent.{Sent}
-use Rattle.port.specs.declared.Sent.TheVariants as sent
-use Rattle.port.specs.Port.{valid_port, slot_of, taken_of, receive_of, measured_port, measure_of, started_port, start_of}
+use Rattle.port.specs.Port.{valid_waiting, valid_port, slot_of, taken_of, receive_of, measured_port, measure_of, started_port, start_of}
 use Rattle.port.proofs.Valid.{source_valid}
 use Rattle.port.proofs.Promises.{by_handed, leaves_new, kept_valid}
 use Rattle.fill.specs.Fill.{SlotRun, then_run, run_of, fill_of}
@@ -80,11 +79,11 @@ pub record Runs (h : Held) (k : ℕ) (r : SlotRun) : Type 0 where
   pub sends : bytes_all h (replicate k slots_once) ≡ r.bytes
 
 -- after a slot that sent t: the run goes on, or it ends there
-goes_on : (h : Held) (t : Sent) (k : ℕ) (r : SlotRun) → (slot_of h.port).sent ≡ t → Runs (after h slots_once) k r → Runs h (ran_by t k) (then_run t (slot_of h.port).port r)
+goes_on : (h : Held) (t : Answer (Option ℕ)) (k : ℕ) (r : SlotRun) → (slot_of h.port).sent ≡ t → Runs (after h slots_once) k r → Runs h (ran_by t k) (then_run t (slot_of h.port).port r)
 unfolding after_all bytes_all
-goes_on h (sent.Byte b) k r e f = record { state = f.state; sends = ap₂ (λ (x y : List ℕ). x ++ y) (ap bytes_of e) f.sends }
-goes_on h sent.Idle k r e f = record { state = refl; sends = ap (λ (x : Sent). bytes_of x ++ []) e }
-goes_on h (sent.Refused z) k r e f = record { state = refl; sends = ap (λ (x : Sent). bytes_of x ++ []) e }
+goes_on h (Ok (Some b)) k r e f = record { state = f.state; sends = ap₂ (λ (x y : List ℕ). x ++ y) (ap bytes_of e) f.sends }
+goes_on h (Ok None) k r e f = record { state = refl; sends = ap (λ (x : Answer (Option ℕ)). bytes_of x ++ []) e }
+goes_on h (Err z) k r e f = record { state = refl; sends = ap (λ (x : Answer (Option ℕ)). bytes_of x ++ []) e }
 
 runs : (n : ℕ) (h : Held) → Runs h (ran n h.port) (run_of n h.port)
 unfolding run_of ran after_all bytes_all
@@ -114,7 +113,7 @@ unfolding receive_of taken_of
 received_long p l b h =
     let P : Received → Type 0 = λ x. length x.port.message.bytes ≡ message_length in
     by P (valid_port p && valid_line l) _ _
-    (λ v. by P (ends l b) _ _ (λ y. by P p.waiting.some _ _ (λ w. h) (λ w. h)) (λ n. h))
+    (λ v. by P (ends l b) _ _ (λ y. by P (is_some p.waiting) _ _ (λ w. h) (λ w. h)) (λ n. h))
     (λ n. h)
 
 measured_long : (p : Port) (m : Measurement) → length p.message.bytes ≡ message_length → length (measure_of p m).port.message.bytes ≡ message_length
@@ -126,7 +125,7 @@ measured_long p m h =
 -- a turn elsewhere keeps a valid port valid
 pub turned_valid : (p : Port) (t : Turn) → valid_port p ≡ true → valid_port (turned_port t p) ≡ true
 unfolding valid_port
-turned_valid p t v = ap (λ (x : Bool). x && (valid_message p.message && valid_line p.waiting.line)) (turned_same t p.source) ∙ v
+turned_valid p t v = ap (λ (x : Bool). x && (valid_message p.message && valid_waiting p.waiting)) (turned_same t p.source) ∙ v
 
 pub follows : (h : Held) (c : Call) → Sound h.port → valid_line h.line ≡ true → Follows h (after h c) (bytes h c) (events_of h c)
 follows h (receive b) s l = record {
@@ -164,7 +163,7 @@ all_follow h (c ∷ cs) s l =
 
 -- ---- from a start
 
-start_sound : (old : Port) (l : Line) (s : Settings) (m : Measurement) → (start_of old l s m).verdict ≡ Done → Sound (start_of old l s m).port
+start_sound : (old : Port) (l : Line) (s : Settings) (m : Measurement) → (start_of old l s m).verdict ≡ Ok tt → Sound (start_of old l s m).port
 start_sound old l s m e =
     let z = zeros_long in
     record {
@@ -172,17 +171,17 @@ start_sound old l s m e =
       long = ap (λ (p : Port). length p.message.bytes) (leaves_new old l s m e).0 ∙ (length_over zeros greeting 0 ∙ z);
     }
 
-start_line : (old : Port) (l : Line) (s : Settings) (m : Measurement) → (start_of old l s m).verdict ≡ Done → valid_line (start_of old l s m).line ≡ true
+start_line : (old : Port) (l : Line) (s : Settings) (m : Measurement) → (start_of old l s m).verdict ≡ Ok tt → valid_line (start_of old l s m).line ≡ true
 start_line old l s m e = subst (λ (x : Line). valid_line x ≡ true) (sym (leaves_new old l s m e).1) blank_valid
 
-started_good : (old : Port) (l : Line) (s : Settings) (m : Measurement) → (start_of old l s m).verdict ≡ Done → Good (started_port s m).source
+started_good : (old : Port) (l : Line) (s : Settings) (m : Measurement) → (start_of old l s m).verdict ≡ Ok tt → Good (started_port s m).source
 unfolding is_on
 started_good old l s m e = record {
   valid = source_valid (started_port s m) (subst (λ (p : Port). valid_port p ≡ true) (leaves_new old l s m e).0 (kept_valid.start old l s m e));
   ready_off = λ r. refl;
 }
 
-started_follows : (old : Port) (l : Line) (s : Settings) (m : Measurement) (cs : List Call) → (start_of old l s m).verdict ≡ Done →
+started_follows : (old : Port) (l : Line) (s : Settings) (m : Measurement) (cs : List Call) → (start_of old l s m).verdict ≡ Ok tt →
     let h = begun old l s m in
     Follows h (after_all h cs) (bytes_all h cs) (events_all h cs)
 started_follows old l s m cs e = all_follow (begun old l s m) cs (start_sound old l s m e) (start_line old l s m e)

@@ -6,13 +6,13 @@ use mathlib.Core.Logic.{◌≢◌}
 use mathlib.Core.Option.{Option, none, some}
 use mathlib.Core.Path.{◌≡◌, refl, sym, ap, ap₂, subst, ◌∙◌}
 use native.Mathlib.Omega.{arith}
+use Rattle.std.specs.Prelude.{Some, Ok, Err}
 use Rattle.laws.proofs.Tests.{never}
 use Rattle.machine.specs.Machine.{State, waiting, listed, Events, received, slot, slots, took, modes, next, shows, run, sent, taken_in, taken, acted_in, acted}
 use Rattle.machine.specs.Promised as machine
 use Rattle.machine.specs.Promised.{ActedBy}
 use Rattle.machine.proofs.Use.{seen_append, acted_first}
 use Rattle.refusal.specs.declared.Refusal.TheVariants as refusal
-use Rattle.refusal.specs.declared.Verdict.TheVariants.{Done, Refused}
 use Rattle.line.specs.declared.Line.{Line}
 use Rattle.line.specs.Line.{ends}
 use Rattle.state.specs.declared.Source.{Source}
@@ -21,7 +21,7 @@ use Rattle.rules.specs.Lens.{lens}
 use Rattle.rules.specs.Promise.{act_by, reply_by, record_by}
 use Rattle.port.specs.Port.{act_of, slot_of, receive_of}
 use Rattle.port.proofs.Valid.{message_valid}
-use Rattle.walk.specs.View.{waits_of, holding, view}
+use Rattle.walk.specs.View.{waits_of, view}
 use Rattle.walk.specs.Calls.{Call, receive, slots_once, Held, view_of, after, after_all, events_all, FromStart}
 use Rattle.walk.specs.Answers.{verdict_of}
 use Rattle.walk.specs.InCalls.{acted_all, slots_run, by_slots, Replied, Acted, StaysOn, Recorded, Demand3InCalls}
@@ -53,27 +53,27 @@ in_time h mid rest {n} =
 -- ---- a command
 
 -- a byte that ends the line and is answered done takes it
-takes : (h : Held) (b : ℕ) → FromStart h → ends h.line b ≡ true → (receive_of h.port h.line b).verdict ≡ Done → shows (view_of h) (received b) ≡ took h.line
+takes : (h : Held) (b : ℕ) → FromStart h → ends h.line b ≡ true → (receive_of h.port h.line b).verdict ≡ Ok tt → shows (view_of h) (received b) ≡ took h.line
 unfolding view
 takes h b f e d = by_waiting (waits_of h.port.waiting) refl
   where
     by_waiting : (w : Option Line) → waits_of h.port.waiting ≡ w → shows (view_of h) (received b) ≡ took h.line
     by_waiting none n = (here (reached f)).taken_if_free b e n
     by_waiting (some c) y =
-        let z : Refused refusal.Dropped ≡ Done = sym (ap verdict_of ((here (reached f)).dropped_if_not b c e y)) ∙ sym (answers.receive_shows h b f) ∙ d in
-        never (cc)
+        let z : Err refusal.Dropped ≡ Ok tt = sym (ap verdict_of ((here (reached f)).dropped_if_not b c e y)) ∙ sym (answers.receive_shows h b f) ∙ d in
+        never cc
 
 -- the line taken waits, where none was acted on
 still_waits : (w v : Option Line) (c : Line) (t : List Line) → listed w ++ c ∷ t ≡ listed v → v ≡ some c
-still_waits none none c t e = never (cc)
+still_waits none none c t e = never cc
 still_waits none (some d) c t e = cc
-still_waits (some x) none c t e = never (cc)
-still_waits (some x) (some d) c [] e = never (cc)
-still_waits (some x) (some d) c (y ∷ t) e = never (cc)
+still_waits (some x) none c t e = never cc
+still_waits (some x) (some d) c [] e = never cc
+still_waits (some x) (some d) c (y ∷ t) e = never cc
 
 no_more : (xs ys : List Line) → xs ++ ys ≡ [] → xs ≡ []
 no_more [] ys e = refl
-no_more (x ∷ xs) ys e = never (cc)
+no_more (x ∷ xs) ys e = never cc
 
 module _ (h : Held) (b : ℕ) (cs : List Call) (f : FromStart h) (t : shows (view_of h) (received b) ≡ took h.line) where
   abbrev h' : Held
@@ -108,7 +108,7 @@ module _ (h : Held) (b : ℕ) (cs : List Call) (f : FromStart h) (t : shows (vie
       (first.0, all_act h' cs f' ∙ ap (λ (x : State lens). acted x (events_all h' cs)) seen_so ∙ first.1)
 
   module _ (a : ActedBy act_by x' h.line (events_all h' cs)) where
-    waits : (some_of others : List Call) → calls_of a.mid ≡ some_of ++ others → (after_all h' some_of).port.waiting ≡ holding h.line
+    waits : (some_of others : List Call) → calls_of a.mid ≡ some_of ++ others → (after_all h' some_of).port.waiting ≡ Some h.line
     unfolding view
     waits some_of others e =
         let es = events_all h' some_of in
@@ -124,7 +124,7 @@ module _ (h : Held) (b : ℕ) (cs : List Call) (f : FromStart h) (t : shows (vie
     abbrev there : Held
     there = after_all h' (calls_of a.mid)
 
-    acts : slot_of there.port ≡ act_of there.port
+    acts : slot_of there.port ≡ act_of there.port h.line
     acts = (answers.slot_acts there h.line (goes_on (calls_of a.mid) f') (ap (λ (x : State lens). acted_in (shows x slot)) (view_then a.mid) ∙ a.acts)).1
 
     replies : reply_by ≤ slots_run h' (by_slots h' cs) → (does there.port.source h.line).reply ≢ [] → Replied reply_by h' h.line (calls_of a.mid) (calls_of a.rest)

@@ -5,14 +5,14 @@ use mathlib.Core.List.{List, [], ◌∷◌, ◌++◌, append-nil}
 use mathlib.Core.Option.{Option, none, some}
 use mathlib.Core.Path.{◌≡◌, refl, sym, ap, ap₂, subst, ◌∙◌}
 use lib.ListN.{replicate}
-use Rattle.laws.proofs.Tests.{cond_yes, cond_no, told, never}
-use Rattle.refusal.specs.Answer.{is_done}
+use Rattle.std.specs.Prelude as std
+use Rattle.std.specs.Prelude.{None, Some, is_some}
+use Rattle.laws.proofs.Tests.{told, never}
+use Rattle.refusal.specs.Answer.{Verdict, is_done}
 use Rattle.machine.specs.Machine.{Kind, Choice, choice, State, port, waiting, line, listed, rules, begin, on_byte, on_return, on_other, on_slot, on_given, received, slot, given, Out, next, shows, seen, taken_in, taken, acted_in, acted}
 use Rattle.machine.proofs.Use.{seen_append}
-use Rattle.refusal.specs.declared.Verdict.{Verdict}
 use Rattle.line.specs.declared.Line.{Line}
 use Rattle.line.specs.Line.{ends}
-use Rattle.state.specs.declared.Waiting.{Waiting}
 use Rattle.rules.specs.Lens.{Given, measurement, elsewhere, lens}
 use Rattle.walk.specs.View.{waits_of, view}
 use Rattle.walk.specs.Calls.{Call, receive, slots_once, measure, fill, turn, Held, view_of, after, ran, events_of, after_all, events_all, FromStart}
@@ -77,31 +77,27 @@ byte_acts : (x : State lens) (b : ℕ) → acted_in (shows x (received b)) ≡ [
 byte_acts x b = by_byte (λ o. acted_in o ≡ []) x b refl (λ c. refl) refl
 
 -- a place that is empty then held nothing, if none of it was acted on
-left_nil : (w : Waiting) (t a : List Line) (v : Waiting) → listed (waits_of w) ++ t ≡ a ++ listed (waits_of v) → a ≡ [] → cond v.some [] (listed (waits_of w)) ≡ a
-left_nil w t a v e z =
-    told v.some
-    (λ y. cond_yes _ _ y ∙ sym z)
-    (λ n.
-    let k : listed (waits_of w) ++ t ≡ [] = e ∙ ap₂ (λ (x : List Line) (o : Option Line). x ++ listed o) z (cond_no _ _ n) in
-    cond_no _ _ n ∙ nothing (waits_of w) k ∙ sym z)
-  where
-    nothing : (o : Option Line) → listed o ++ t ≡ [] → listed o ≡ []
-    nothing none k = refl
-    nothing (some c) k = never (cc)
+nothing : (o : Option Line) (t : List Line) → listed o ++ t ≡ [] → listed o ≡ []
+nothing none t k = refl
+nothing (some c) t k = never cc
+
+left_nil : (w : std.Option Line) (t a : List Line) (v : std.Option Line) → listed (waits_of w) ++ t ≡ a ++ listed (waits_of v) → a ≡ [] → cond (is_some v) [] (listed (waits_of w)) ≡ a
+left_nil w t a (Some c) e z = sym z
+left_nil w t a None e z = nothing (waits_of w) t (e ∙ append-nil a ∙ z) ∙ sym z
 
 -- what leaves it was acted on, if none was taken
-left_all : (w : Waiting) (t a : List Line) (v : Waiting) → listed (waits_of w) ++ t ≡ a ++ listed (waits_of v) → t ≡ [] → cond v.some [] (listed (waits_of w)) ≡ a
-left_all w t a v e z =
-    let k : listed (waits_of w) ≡ a ++ listed (waits_of v) = sym (ap (λ (x : List Line). listed (waits_of w) ++ x) z ∙ append-nil _) ∙ e in
-    told v.some
-    (λ y. cond_yes _ _ y ∙ sym (few (waits_of w) a v.line (k ∙ ap (λ (o : Option Line). a ++ listed o) (cond_yes _ _ y))))
-    (λ n. cond_no _ _ n ∙ k ∙ ap (λ (o : Option Line). a ++ listed o) (cond_no _ _ n) ∙ append-nil a)
+few : (o : Option Line) (xs : List Line) (c : Line) → listed o ≡ xs ++ c ∷ [] → xs ≡ []
+few o [] c i = refl
+few none (x ∷ xs) c i = never cc
+few (some d) (x ∷ []) c i = never cc
+few (some d) (x ∷ y ∷ xs) c i = never cc
+
+left_all : (w : std.Option Line) (t a : List Line) (v : std.Option Line) → listed (waits_of w) ++ t ≡ a ++ listed (waits_of v) → t ≡ [] → cond (is_some v) [] (listed (waits_of w)) ≡ a
+left_all w t a v e z = by_waiting v (sym (ap (λ (x : List Line). listed (waits_of w) ++ x) z ∙ append-nil _) ∙ e)
   where
-    few : (o : Option Line) (xs : List Line) (c : Line) → listed o ≡ xs ++ c ∷ [] → xs ≡ []
-    few o [] c i = refl
-    few none (x ∷ xs) c i = never (cc)
-    few (some d) (x ∷ []) c i = never (cc)
-    few (some d) (x ∷ y ∷ xs) c i = never (cc)
+    by_waiting : (v : std.Option Line) → listed (waits_of w) ≡ a ++ listed (waits_of v) → cond (is_some v) [] (listed (waits_of w)) ≡ a
+    by_waiting (Some c) k = sym (few (waits_of w) a c k)
+    by_waiting None k = k ∙ append-nil a
 
 call_acts : (h : Held) (c : Call) → FromStart h → acted_by h c ≡ acted (view_of h) (events_of h c)
 unfolding view

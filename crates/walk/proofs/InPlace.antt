@@ -4,9 +4,9 @@ use mathlib.Core.Bool.{true, false, ◌&&◌, false≢true}
 use mathlib.Core.List.{List, [], ◌∷◌, ◌++◌}
 use mathlib.Core.Path.{◌≡◌, refl, sym, ap, ap₂, ◌∙◌}
 use native.Mathlib.Omega.{arith}
+use Rattle.std.specs.Prelude.{is_some, Ok, Err}
 use Rattle.laws.proofs.Tests.{and_right, and_both, cond_yes, cond_no, told, by}
 use Rattle.refusal.specs.declared.Refusal.TheVariants as refusal
-use Rattle.refusal.specs.declared.Verdict.TheVariants.{Done, Refused}
 use Rattle.line.specs.declared.Line.{Line}
 use Rattle.line.specs.Line.{blank, ends, joined, valid_line}
 use Rattle.collector.specs.declared.Collected.{Collected}
@@ -27,7 +27,7 @@ no_end k f e = absurd (false≢true (sym f ∙ sym (ap (λ (x : Collected). x.en
 
 module _ (p : Port) (l : Line) (b : ℕ) where
   -- receive, case by case
-  refused_received : valid_line l ≡ false → receive_of p l b ≡ record { verdict = Refused refusal.State; port = p; line = l }
+  refused_received : valid_line l ≡ false → receive_of p l b ≡ record { verdict = Err refusal.State; port = p; line = l }
   unfolding receive_of
   refused_received n =
       told (valid_port p && valid_line l)
@@ -39,13 +39,13 @@ module _ (p : Port) (l : Line) (b : ℕ) where
     unfolding receive_of
     return_received e = cond_yes _ _ (and_both v w) ∙ cond_yes _ _ e
 
-    other_received : ends l b ≡ false → receive_of p l b ≡ record { verdict = Done; port = p; line = joined l b }
+    other_received : ends l b ≡ false → receive_of p l b ≡ record { verdict = Ok tt; port = p; line = joined l b }
     unfolding receive_of
     other_received n = cond_yes _ _ (and_both v w) ∙ cond_no _ _ n
 
   emptied : (taken_of p l).line ≡ blank
   unfolding taken_of
-  emptied = by (λ (x : Received). x.line ≡ blank) p.waiting.some _ _ (λ y. refl) (λ n. refl)
+  emptied = by (λ (x : Received). x.line ≡ blank) (is_some p.waiting) _ _ (λ y. refl) (λ n. refl)
 
   line : valid_port p ≡ true → (receive_of p l b).line ≡ line_after l b
   line v =
@@ -65,7 +65,7 @@ module _ (p : Port) (l : Line) (b : ℕ) where
       (λ n h. no_end (other_answer l b w n) refl h))
       (λ n h. no_end (refused_answer l b n) refl h)
 
-  refused : (collected l b).number ≡ 16 → ((receive_of p l b).verdict ≡ Refused refusal.State) × ((receive_of p l b).port ≡ p)
+  refused : (collected l b).number ≡ 16 → ((receive_of p l b).verdict ≡ Err refusal.State) × ((receive_of p l b).port ≡ p)
   refused =
       told (valid_line l)
       (λ w.
@@ -74,7 +74,7 @@ module _ (p : Port) (l : Line) (b : ℕ) where
       (λ n h. absurd (let z = ap (λ (c : Collected). c.number) (other_answer l b w n) in omega arith)))
       (λ n h. (ap (λ (x : Received). x.verdict) (refused_received n), ap (λ (x : Received). x.port) (refused_received n)))
 
-  done : valid_port p ≡ true → (collected l b).ended ≡ false → (collected l b).number ≡ 0 → (receive_of p l b).verdict ≡ Done
+  done : valid_port p ≡ true → (collected l b).ended ≡ false → (collected l b).number ≡ 0 → (receive_of p l b).verdict ≡ Ok tt
   done v =
       told (valid_line l)
       (λ w.

@@ -9,9 +9,10 @@ use native.Mathlib.Omega.{arith}
 use borrow.Author.Tests.{ltb-true, ltb-false}
 use lib.Dec.{ltb}
 use lib.ListN.{replicate}
+use Rattle.std.specs.Prelude as std
+use Rattle.std.specs.Prelude.{None, Some, Ok}
 use Rattle.laws.proofs.Tests.{cond_yes, cond_no, told, never}
 use Rattle.machine.specs.Machine.{Kind, Choice, choice, State, port, modes, waiting, underway, last, rule3, answer, rule2, rules, begin, on_slot, on_given, slot, given, shows, started_in, started}
-use Rattle.refusal.specs.declared.Verdict.TheVariants.{Done}
 use Rattle.fixed.specs.declared.Settings.{Settings}
 use Rattle.units.specs.declared.Measurement.{Measurement}
 use Rattle.line.specs.declared.Line.{Line}
@@ -24,7 +25,7 @@ use Rattle.port.proofs.Valid.{message_valid}
 use Rattle.walk.specs.View.{kind_of, waits_of, view}
 use Rattle.walk.specs.Walk.{Sound}
 use Rattle.walk.specs.Calls.{Call, receive, slots_once, measure, fill, turn, Held, view_of, after, ran, events_of, after_all, events_all, begun, FromStart}
-use Rattle.walk.specs.InCalls.{slots_in, else_record, given_at, if_any, started_at, started_over, started_all, WholeMessages}
+use Rattle.walk.specs.InCalls.{slots_in, else_record, given_to, given_at, if_any, started_at, started_over, started_all, WholeMessages}
 use Rattle.walk.proofs.Slot.{none_left, all_sent, owed_is}
 use Rattle.walk.proofs.Walk.{walks}
 use Rattle.walk.proofs.Calls.{reached, of_the_port}
@@ -46,17 +47,18 @@ unfolding answer else_record
 answer_gives [] s c = rule3_gives (some c) (does s c).source
 answer_gives (b ∷ bs) s c = refl
 
+gives_to : (s : Source) (w : std.Option Line) → message_in (rule2 lens s (waits_of w)) ≡ given_to s w
+unfolding rule2
+gives_to s (Some c) = answer_gives (does s c).reply s c
+gives_to s None = rule3_gives none s
+
 rules_give : (p : Port) → message_in (rules lens p.source (waits_of p.waiting) (kind_of p.last)) ≡ given_at p
-unfolding rules rule2 given_at
+unfolding rules given_at
 rules_give p =
     rw (owed_is p.source p.last)
     (told (continuous p.source && is_reply p.last)
     (λ y. rw y)
-    (λ n.
-    rw n
-    (told p.waiting.some
-    (λ y. rw y (answer_gives (does p.source p.waiting.line).reply p.source p.waiting.line))
-    (λ z. rw z (rule3_gives none p.source)))))
+    (λ n. rw n (gives_to p.source p.waiting)))
 
 -- ---- the message that a slot starts
 
@@ -67,7 +69,7 @@ begin_starts (choice a m w k (b ∷ bs)) before l = refl
 
 starts : (x : State lens) → underway x ≡ [] → started_in (shows x slot) ≡ if_any (message_in (rules lens (modes x) (waiting x) (last x)))
 unfolding on_slot
-starts (port m w (b ∷ bs) k l) e = never (cc)
+starts (port m w (b ∷ bs) k l) e = never cc
 starts (port m w [] k l) e = begin_starts (rules lens m w k) k l
 
 -- none, while one is under way
@@ -117,11 +119,11 @@ all_start h (c ∷ cs) f = end_to_end_lem started_in h c cs f _ _ (call_starts h
 
 -- ---- from a start
 
-begun_there : (old : Port) (l : Line) (s : Settings) (m : Measurement) → (start_of old l s m).verdict ≡ Done → FromStart (begun old l s m)
+begun_there : (old : Port) (l : Line) (s : Settings) (m : Measurement) → (start_of old l s m).verdict ≡ Ok tt → FromStart (begun old l s m)
 unfolding after_all
 begun_there old l s m e = record { old = old; old_line = l; settings = s; measurement = m; accepted = e; calls = []; held = refl }
 
-pub whole_messages : (old : Port) (l : Line) (s : Settings) (m : Measurement) (cs : List Call) → (start_of old l s m).verdict ≡ Done → WholeMessages (begun old l s m) cs
+pub whole_messages : (old : Port) (l : Line) (s : Settings) (m : Measurement) (cs : List Call) → (start_of old l s m).verdict ≡ Ok tt → WholeMessages (begun old l s m) cs
 unfolding view
 whole_messages old l s m cs e =
     let h = begun old l s m in

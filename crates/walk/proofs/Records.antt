@@ -4,6 +4,7 @@ use mathlib.Core.Bool.{Bool, true, false}
 use mathlib.Core.List.{List, [], ◌∷◌}
 use mathlib.Core.Option.{Option, none, some}
 use mathlib.Core.Path.{◌≡◌, refl, sym, ap, subst, ◌∙◌}
+use Rattle.std.specs.Prelude.{Ok, Some}
 use Rattle.laws.proofs.Tests.{by, never}
 use Rattle.machine.specs.Machine.{Kind, a_record, last, sent_in, begins, Choice, choice, State, port, underway, reply_kind, owed, rule3, answer, rule2, rules, sent_one, begin, on_slot, slot, modes, next, shows}
 use Rattle.line.specs.declared.Line.{Line}
@@ -15,7 +16,6 @@ use Rattle.state.specs.declared.Source.{Source}
 use Rattle.rules.specs.Does.{with_modes, rate_moved, record_is, does, counts, record_message, continuous}
 use Rattle.rules.specs.Lens.{lens}
 use Rattle.port.specs.declared.Port.{Port}
-use Rattle.port.specs.declared.Sent.TheVariants as sent
 use Rattle.port.specs.Port.{slot_of}
 use Rattle.port.proofs.Valid.{message_valid}
 use Rattle.walk.specs.View.{kind_of, left_of, view}
@@ -97,7 +97,7 @@ record_kind last.Reply e = never (cc)
 -- a slot in which the machine starts a record
 pub record Begins (p : Port) (b : ℕ) : Type 0 where
   pub none_underway : p.message.at ≡ p.message.len
-  pub leaves : (slot_of p).sent ≡ sent.Byte b
+  pub leaves : (slot_of p).sent ≡ Ok (Some b)
   pub whole : b ∷ left_of (slot_of p).port.message ≡ record_message (slot_of p).port.source
   pub a_record : (slot_of p).port.last ≡ last.Record
 

@@ -1,9 +1,9 @@
 -- A slot of a sound port is the machine's slot of its view: first the byte of a message under way, then a message that starts, then each rule. Assumes nothing.
 use Prim.Native.Nat.{ℕ, suc, ◌+◌, ◌≤◌, ◌<◌}
-use mathlib.Core.Bool.{Bool, true, false, ◌&&◌, cond}
+use mathlib.Core.Bool.{Bool, true, false, ◌&&◌}
 use mathlib.Core.List.{List, [], ◌∷◌}
 use mathlib.Core.Option.{Option, none, some}
-use mathlib.Core.Path.{◌≡◌, refl, sym, ap, ap₂, subst, ◌∙◌}
+use mathlib.Core.Path.{◌≡◌, refl, sym, ap, subst, ◌∙◌}
 use native.Mathlib.Numerals.{add-one}
 use native.Mathlib.Omega.{arith}
 use borrow.Author.Tests.{leb-true, ltb-true, ltb-false, eqb-true, eqb-false}
@@ -11,6 +11,8 @@ use lib.Arith.{lt_of_le-ne}
 use lib.Dec.{leb, ltb, eqb}
 use lib.ListN.{length, take, drop, get_or, drop_of_length-le}
 use lib.Seq.{drop-cons, get_or-take, length-take-le}
+use Rattle.std.specs.Prelude as std
+use Rattle.std.specs.Prelude.{None, Some, Ok}
 use Rattle.laws.proofs.OverLaws.{length_over, take_over}
 use Rattle.laws.proofs.Tests.{and_right, cond_yes, cond_no, told, by, never}
 use Rattle.machine.specs.Machine.{Kind, neither, a_record, State, port, Out, sends, begins, Choice, choice, owed, rule3, answer, rule2, rules, sent_one, reply_kind, listed, begin, on_slot, acted_in, sent_in}
@@ -19,7 +21,6 @@ use Rattle.state.specs.declared.Last.{Last}
 use Rattle.state.specs.declared.Last.TheVariants as last
 use Rattle.state.specs.declared.Message.{Message}
 use Rattle.state.specs.declared.Source.{Source}
-use Rattle.state.specs.declared.Waiting.{Waiting}
 use Rattle.state.specs.State.{message_length, zeros, unsent, valid_message, valid_source}
 use Rattle.rules.specs.Does.{does, counts, continuous, record_message}
 use Rattle.state.proofs.Laws.{zeros_long}
@@ -28,10 +29,9 @@ use Rattle.rules.proofs.Kept.{does_valid, reply_at_most}
 use Rattle.rules.proofs.Lengths.{record_at_most, record_some}
 use Rattle.port.specs.declared.Port.{Port}
 use Rattle.port.specs.declared.Slotted.{Slotted}
-use Rattle.port.specs.declared.Sent.TheVariants as sent
-use Rattle.port.specs.Port.{moved_if, send_from, begun_with, begins_record, rest_of, nobody, freed, reply_last, answers, is_reply, act_of, choose_of, slot_of}
+use Rattle.port.specs.Port.{moved_if, send_from, begun_with, begins_record, rest_of, freed, reply_last, answers, is_reply, act_of, act_or_rest, choose_of, slot_of}
 use Rattle.port.proofs.Valid.{source_valid, message_valid, message_low}
-use Rattle.walk.specs.View.{kind_of, waits_of, holding, left_of, view, bytes_of}
+use Rattle.walk.specs.View.{kind_of, waits_of, left_of, view, bytes_of}
 use Rattle.walk.specs.Walk.{Sound}
 
 -- what a slot of the port and the machine's step come to: the same state, the same bytes, and a buffer as long as before
@@ -78,7 +78,7 @@ send_alike p l at b bs out long low more e o =
 
 -- ---- a message that starts
 
-begin_alike : (s : Source) (b : ℕ) (bs : List ℕ) (k : Last) (w : Waiting) (l : Line) (out : Out lens) → length (b ∷ bs) ≤ longest_message → sent_in out ≡ b ∷ [] →
+begin_alike : (s : Source) (b : ℕ) (bs : List ℕ) (k : Last) (w : std.Option Line) (l : Line) (out : Out lens) → length (b ∷ bs) ≤ longest_message → sent_in out ≡ b ∷ [] →
     Alike l (begun_with s (unsent (b ∷ bs)) k w) (port (sent_one lens s bs) (waits_of w) bs (kind_of k) l, out)
 unfolding begun_with
 begin_alike s b bs k w l out low o =
@@ -101,7 +101,7 @@ all_sent m v long e =
     (λ y.
     let i = left_is m.bytes m.len m.at long low (ltb-true m.at m.len y) in
     let h : get_or m.bytes m.at 0 ∷ drop (m.at + 1) (take m.len m.bytes) ≡ [] = sym i ∙ e in
-    never (cc))
+    never cc)
     (λ n. omega (arith, ltb-false m.at m.len n))
 
 and_false : (b : Bool) → (b && false) ≡ false
@@ -118,7 +118,7 @@ and_true false = refl
 abbrev pub Chosen : Line → Kind → Slotted → Choice lens → Type 0
 Chosen l k x c = Alike l x (begin c k l)
 
-some_alike : (s : Source) (xs : List ℕ) (k : Last) (w : Waiting) (l : Line) (a : Option Line) (before : Kind) → 0 < length xs → length xs ≤ longest_message →
+some_alike : (s : Source) (xs : List ℕ) (k : Last) (w : std.Option Line) (l : Line) (a : Option Line) (before : Kind) → 0 < length xs → length xs ≤ longest_message →
     Chosen l before (begun_with s (unsent xs) k w) (choice a s (waits_of w) (kind_of k) xs)
 unfolding begin
 some_alike s [] k w l a before h low = absurd (omega arith)
@@ -126,7 +126,7 @@ some_alike s (b ∷ bs) k w l a before h low = begin_alike s b bs k w l (begins 
 
 -- nothing starts: the state stays, and what was sent last with it
 idle_alike : (p : Port) (l : Line) (a : Option Line) (k : Kind) → length p.message.bytes ≡ message_length → left_of p.message ≡ [] → waits_of p.waiting ≡ none →
-    Chosen l (kind_of p.last) (record { sent = sent.Idle; port = p }) (choice a p.source none k [])
+    Chosen l (kind_of p.last) (record { sent = Ok None; port = p }) (choice a p.source none k [])
 unfolding begin view
 idle_alike p l a k long e z = record { state = rw (e, z); bytes = refl; long = long }
 
@@ -149,35 +149,28 @@ reply_kind_lem true = refl
 reply_kind_lem false = refl
 
 -- rule 2, by what the command answers
-answered : (p : Port) (l : Line) (xs : List ℕ) → valid_source p.source ≡ true → length p.message.bytes ≡ message_length → left_of p.message ≡ [] → length xs ≤ longest_message →
-    let c = p.waiting.line in
+answered : (p : Port) (l c : Line) (xs : List ℕ) → valid_source p.source ≡ true → length p.message.bytes ≡ message_length → left_of p.message ≡ [] → length xs ≤ longest_message →
     Chosen l (kind_of p.last) (answers p (does p.source c).source xs (reply_last (counts p.source c))) (answer lens xs p.source c)
 unfolding answers answer
-answered p l [] v long e low =
-    let c = p.waiting.line in
+answered p l c [] v long e low =
     rest_alike (freed p (does p.source c).source) l (does_valid p.source c v) (some c) long e refl
-answered p l (b ∷ bs) v long e low =
-    let c = p.waiting.line in
+answered p l c (b ∷ bs) v long e low =
     let s = (does p.source c).source in
-    subst (λ (k : Kind). Chosen l (kind_of p.last) (begun_with s (unsent (b ∷ bs)) (reply_last (counts p.source c)) nobody) (choice (some c) s none k (b ∷ bs))) (reply_kind_lem (counts p.source c))
-    (some_alike s (b ∷ bs) (reply_last (counts p.source c)) nobody l (some c) (kind_of p.last) (omega arith) low)
+    subst (λ (k : Kind). Chosen l (kind_of p.last) (begun_with s (unsent (b ∷ bs)) (reply_last (counts p.source c)) None) (choice (some c) s none k (b ∷ bs))) (reply_kind_lem (counts p.source c))
+    (some_alike s (b ∷ bs) (reply_last (counts p.source c)) None l (some c) (kind_of p.last) (omega arith) low)
 
-act_alike : (p : Port) (l : Line) → valid_source p.source ≡ true → length p.message.bytes ≡ message_length → left_of p.message ≡ [] →
-    Chosen l (kind_of p.last) (act_of p) (rule2 lens p.source (some p.waiting.line))
+act_alike : (p : Port) (l c : Line) → valid_source p.source ≡ true → length p.message.bytes ≡ message_length → left_of p.message ≡ [] →
+    Chosen l (kind_of p.last) (act_of p c) (rule2 lens p.source (some c))
 unfolding act_of rule2
-act_alike p l v long e =
-    let c = p.waiting.line in
-    answered p l (does p.source c).reply v long e (reply_at_most p.source c v)
+act_alike p l c v long e =
+    answered p l c (does p.source c).reply v long e (reply_at_most p.source c v)
 
 -- rules 2 to 4
-later_alike : (p : Port) (l : Line) → valid_source p.source ≡ true → length p.message.bytes ≡ message_length → left_of p.message ≡ [] →
-    Chosen l (kind_of p.last) (cond p.waiting.some (act_of p) (rest_of p)) (rule2 lens p.source (waits_of p.waiting))
+later_alike : (p : Port) (l : Line) (w : std.Option Line) → p.waiting ≡ w → valid_source p.source ≡ true → length p.message.bytes ≡ message_length → left_of p.message ≡ [] →
+    Chosen l (kind_of p.last) (act_or_rest p w) (rule2 lens p.source (waits_of w))
 unfolding rule2
-later_alike p l v long e =
-    let P : Bool → Type 0 = λ b. Chosen l (kind_of p.last) (cond b (act_of p) (rest_of p)) (rule2 lens p.source (cond b (some p.waiting.line) none)) in
-    told p.waiting.some
-    (λ y. subst P (sym y) (act_alike p l v long e))
-    (λ n. subst P (sym n) (rest_alike p l v none long e (cond_no _ _ n)))
+later_alike p l (Some c) z v long e = act_alike p l c v long e
+later_alike p l None z v long e = rest_alike p l v none long e (ap waits_of z)
 
 pub owed_is : (s : Source) (k : Last) → owed lens s (kind_of k) ≡ (continuous s && is_reply k)
 owed_is s last.Neither = sym (and_false (continuous s))
@@ -191,7 +184,7 @@ choose_alike p l v long e =
     rw (owed_is p.source p.last)
     (told (continuous p.source && is_reply p.last)
     (λ y. rw y (record_alike p l v none (kind_of p.last)))
-    (λ n. rw n (later_alike p l v long e)))
+    (λ n. rw n (later_alike p l p.waiting refl v long e)))
 
 -- ---- the slot
 
@@ -237,23 +230,16 @@ rule2_acts s none = rule3_acts none s
 rule2_acts s (some c) = answer_acts (does s c).reply s c
 
 -- the waiting place that the machine sees filled
-pub waits_some : (w : Waiting) (c : Line) → waits_of w ≡ some c → w ≡ holding c
-waits_some w c e =
-    told w.some
-    (λ y.
-    let h : some w.line ≡ some c = sym (cond_yes _ _ y) ∙ e in
-    let k : w.line ≡ c = cc in
-    ap₂ (λ s l. record { some = s; line = l }) y k)
-    (λ n.
-    let h : none ≡ some c = sym (cond_no _ _ n) ∙ e in
-    never (cc))
+pub waits_some : (w : std.Option Line) (c : Line) → waits_of w ≡ some c → w ≡ Some c
+waits_some (Some l) c e = cc
+waits_some None c e = never cc
 
 listed_one : (w : Option Line) (c : Line) → listed w ≡ c ∷ [] → w ≡ some c
-listed_one none c e = never (cc)
+listed_one none c e = never cc
 listed_one (some d) c e = cc
 
 choose_acts : (p : Port) (l : Line) (c : Line) → acted_in (begin (rules lens p.source (waits_of p.waiting) (kind_of p.last)) (kind_of p.last) l).1 ≡ c ∷ [] →
-    (p.waiting ≡ holding c) × (choose_of p ≡ act_of p)
+    (p.waiting ≡ Some c) × (choose_of p ≡ act_of p c)
 unfolding choose_of rules
 choose_acts p l c e =
     let w = waits_of p.waiting in
@@ -261,19 +247,19 @@ choose_acts p l c e =
     told (continuous p.source && is_reply p.last)
     (λ y.
     let h : [] ≡ c ∷ [] = sym (ap (λ (x : Choice lens). listed (acts_on x)) (cond_yes _ _ (owed_is p.source p.last ∙ y))) ∙ a in
-    never (cc))
+    never cc)
     (λ n.
     let r = ap (λ (x : Choice lens). listed (acts_on x)) (cond_no _ _ (owed_is p.source p.last ∙ n)) in
     let h = waits_some p.waiting c (listed_one w c (sym (ap (λ (x : Option Line). listed x) (rule2_acts p.source w)) ∙ sym r ∙ a)) in
-    (h, cond_no _ _ n ∙ cond_yes _ _ (ap (λ (x : Waiting). x.some) h)))
+    (h, cond_no _ _ n ∙ ap (act_or_rest p) h))
 
 -- a slot in which the machine acts on a command is rule 2 of the port, and that command waits
-pub slot_acts : (p : Port) (l : Line) (c : Line) → Sound p → acted_in (on_slot (view p l)).1 ≡ c ∷ [] → (p.waiting ≡ holding c) × (slot_of p ≡ act_of p)
+pub slot_acts : (p : Port) (l : Line) (c : Line) → Sound p → acted_in (on_slot (view p l)).1 ≡ c ∷ [] → (p.waiting ≡ Some c) × (slot_of p ≡ act_of p c)
 unfolding slot_of view on_slot
 slot_acts p l c s =
     let m = p.message in
     let low = message_low m (message_valid p s.valid) in
     rw s.valid
     (told (ltb m.at m.len)
-    (λ y. rw (y, left_is m.bytes m.len m.at s.long low (ltb-true m.at m.len y)) (λ e. never (cc)))
+    (λ y. rw (y, left_is m.bytes m.len m.at s.long low (ltb-true m.at m.len y)) (λ e. never cc))
     (λ n. rw (n, none_left m (message_valid p s.valid) s.long (ltb-false m.at m.len n)) (choose_acts p l c)))

@@ -1,7 +1,7 @@
 -- A start accepts the settings and the measurement of a lens in range, and `Tight` says that the bench lens is one. Assumes nothing.
 use mathlib.Core.Bool.{true}
 use mathlib.Core.Path.{◌≡◌, ap, ◌∙◌}
-use Rattle.refusal.specs.declared.Verdict.TheVariants.{Done}
+use Rattle.std.specs.Prelude.{Ok}
 use Rattle.line.specs.declared.Line.{Line}
 use Rattle.state.specs.declared.Source.{Source}
 use Rattle.state.specs.State.{valid_source}
@@ -14,7 +14,7 @@ use Rattle.port.proofs.Promises.{leaves_new, start_verdict_lem}
 use Rattle.port.proofs.Cases.{good_settings}
 use Rattle.walk.specs.TightStart.{TightStart}
 
-accepts : (old : Port) (l : Line) (s : Source) → valid_source s ≡ true → (start_of old l s.settings s.measurement).verdict ≡ Done
+accepts : (old : Port) (l : Line) (s : Source) → valid_source s ≡ true → (start_of old l s.settings s.measurement).verdict ≡ Ok tt
 accepts old l s v =
     let t = valid_told s v in
     start_verdict_lem old l s.settings s.measurement ∙ good_settings s.settings s.measurement t.settings ∙ t.measurement
@@ -22,5 +22,5 @@ accepts old l s v =
 pub tight_start : TightStart
 unfolding unit_of
 tight_start =
-    let accepted : (old : Port) (l : Line) → (start_of old l bench.settings bench.measurement).verdict ≡ Done = λ old l. accepts old l bench tight.good.valid in
+    let accepted : (old : Port) (l : Line) → (start_of old l bench.settings bench.measurement).verdict ≡ Ok tt = λ old l. accepts old l bench tight.good.valid in
     record { accepted = accepted; leaves = λ old l. ap (λ (p : Port). p.source) (leaves_new old l bench.settings bench.measurement (accepted old l)).0 }

@@ -2,17 +2,17 @@
 use Prim.Native.Nat.{ℕ}
 use mathlib.Core.Bool.{Bool, true, cond}
 use mathlib.Core.List.{List}
-use mathlib.Core.Option.{Option, none, some}
+use mathlib.Core.Option.{none}
 use mathlib.Core.Path.{◌≡◌, refl, sym, ap, ap₂, subst, ◌∙◌}
 use native.Mathlib.Omega.{arith}
 use lib.ListN.{length}
+use Rattle.std.specs.Prelude as std
+use Rattle.std.specs.Prelude.{None, Some, is_some, Ok, Err}
 use Rattle.laws.proofs.OverLaws.{take_over}
-use Rattle.laws.proofs.Tests.{and_both, cond_yes, told}
-use Rattle.refusal.specs.Answer.{is_done}
+use Rattle.laws.proofs.Tests.{and_both, told}
+use Rattle.refusal.specs.Answer.{Verdict, is_done}
 use Rattle.machine.specs.Machine.{neither, port, start, on_return, on_other, on_byte, on_given, next, received, given}
 use Rattle.refusal.specs.declared.Refusal.TheVariants as refusal
-use Rattle.refusal.specs.declared.Verdict.{Verdict}
-use Rattle.refusal.specs.declared.Verdict.TheVariants.{Done, Refused}
 use Rattle.fixed.specs.declared.Settings.{Settings}
 use Rattle.units.specs.Measurement.{measurement_verdict}
 use Rattle.units.specs.declared.Measurement.{Measurement}
@@ -38,7 +38,7 @@ started_view s m =
     let z = zeros_long in
     ap (λ (u : List ℕ). port (started_port s m).source none u neither blank) (take_over zeros greeting (length greeting) refl (omega arith))
 
-start_walks : (old : Port) (l : Line) (s : Settings) (m : Measurement) → (start_of old l s m).verdict ≡ Done →
+start_walks : (old : Port) (l : Line) (s : Settings) (m : Measurement) → (start_of old l s m).verdict ≡ Ok tt →
     view (start_of old l s m).port (start_of old l s m).line ≡ start lens (started_port s m).source
 start_walks old l s m e =
     let n = leaves_new old l s m e in
@@ -48,15 +48,13 @@ start_walks old l s m e =
 
 taken_walks : (p : Port) (l : Line) → view (taken_of p l).port (taken_of p l).line ≡ (on_return (view p l)).0
 unfolding taken_of view on_return
-taken_walks p l =
-    let u = left_of p.message in
-    let k = kind_of p.last in
-    let P : Bool → Type 0 = λ b.
-    (let x : Received = cond b (record { verdict = Refused refusal.Dropped; port = p; line = blank }) (record { verdict = Done; port = taken_port p l; line = blank }) in
-    view x.port x.line ≡ (on_return (port p.source (cond b (some p.waiting.line) none) u k l)).0) in
-    told p.waiting.some
-    (λ y. subst P (sym y) (ap (λ (w : Option Line). port p.source w u k blank) (cond_yes _ _ y)))
-    (λ n. subst P (sym n) refl)
+taken_walks p l = by_waiting p.waiting refl
+  where
+    by_waiting : (w : std.Option Line) → p.waiting ≡ w →
+        let x : Received = cond (is_some w) (record { verdict = Err refusal.Dropped; port = p; line = blank }) (record { verdict = Ok tt; port = taken_port p l; line = blank }) in
+        view x.port x.line ≡ (on_return (port p.source (waits_of w) (left_of p.message) (kind_of p.last) l)).0
+    by_waiting (Some c) e = ap (λ (x : std.Option Line). port p.source (waits_of x) (left_of p.message) (kind_of p.last) blank) e
+    by_waiting None e = refl
 
 joins : (p : Port) (l : Line) (b : ℕ) → view p (joined l b) ≡ (on_other (view p l) b).0
 unfolding view on_other
@@ -66,7 +64,7 @@ receive_walks : (p : Port) (l : Line) (b : ℕ) → Sound p → valid_line l ≡
 unfolding receive_of on_byte view
 receive_walks p l b s v =
     let P : Bool → Type 0 = λ t.
-    (let x : Received = cond t (taken_of p l) (record { verdict = Done; port = p; line = joined l b }) in
+    (let x : Received = cond t (taken_of p l) (record { verdict = Ok tt; port = p; line = joined l b }) in
     view x.port x.line ≡ (cond t (on_return (view p l)) (on_other (view p l) b)).0) in
     rw (and_both s.valid v)
     (told (ends l b) (λ y. subst P (sym y) (taken_walks p l)) (λ n. subst P (sym n) (joins p l b)))
@@ -76,8 +74,8 @@ receive_walks p l b s v =
 measure_by : (v : Verdict) (p : Port) (l : Line) (m : Measurement) →
     view (handed v (measured_port p m) p).port l ≡ port (cond (is_done v) (measured_port p m).source p.source) (waits_of p.waiting) (left_of p.message) (kind_of p.last) l
 unfolding handed view
-measure_by Done p l m = refl
-measure_by (Refused r) p l m = refl
+measure_by (Ok tt) p l m = refl
+measure_by (Err r) p l m = refl
 
 measure_walks : (p : Port) (l : Line) (m : Measurement) → Sound p → view (measure_of p m).port l ≡ next (view p l) (given (measurement m))
 unfolding measure_of view on_given measured

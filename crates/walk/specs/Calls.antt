@@ -1,17 +1,15 @@
 -- Demand 3 for the port itself: every sequence of calls of receive, slot, measure and fill, and of turns of the start-up letter at another connector, is
 -- a run of the machine, from the state that a start leaves; a fill counts as the slots it runs. Statements only.
-use Rattle.std.specs.Prelude.{ℕ, zero, suc, List, [], ◌∷◌, ◌++◌, ◌≡◌, replicate}
+use Rattle.std.specs.Prelude.{ℕ, zero, suc, List, [], ◌∷◌, ◌++◌, ◌≡◌, replicate, Err, None, Ok, Option, Some}
+use Rattle.refusal.specs.Answer.{Answer}
 use Rattle.machine.specs.Machine.{State, Events, received, slot, given, run, sent, start}
 use Rattle.machine.specs.Promised.{Promised}
-use Rattle.refusal.specs.declared.Verdict.TheVariants.{Done}
 use Rattle.fixed.specs.declared.Settings.{Settings}
 use Rattle.units.specs.declared.Measurement.{Measurement}
 use Rattle.line.specs.declared.Line.{Line}
 use Rattle.rules.specs.Lens.{Turn, measurement, elsewhere, lens}
 use Rattle.rules.specs.Promise.{act_by, reply_by, record_by}
 use Rattle.port.specs.declared.Port.{Port}
-use Rattle.port.specs.declared.Sent.{Sent}
-use Rattle.port.specs.declared.Sent.TheVariants as sent
 use Rattle.port.specs.Port.{slot_of, receive_of, measure_of, started_port, start_of}
 use Rattle.fill.specs.Fill.{run_of, fill_of}
 use Rattle.walk.specs.View.{view, bytes_of}
@@ -50,10 +48,10 @@ bytes h (fill n) = (run_of n h.port).bytes
 bytes h (turn t) = []
 
 -- how many slots a fill runs: one for each byte, and the idle one, if it ended so (no slot of a port from a start is refused: `slot_16` in Answers)
-abbrev pub ran_by : Sent → ℕ → ℕ
-ran_by (sent.Byte b) n = suc n
-ran_by sent.Idle n = 1
-ran_by (sent.Refused r) n = 1
+abbrev pub ran_by : Answer (Option ℕ) → ℕ → ℕ
+ran_by (Ok (Some b)) n = suc n
+ran_by (Ok None) n = 1
+ran_by (Err r) n = 1
 
 unfoldable pub ran : ℕ → Port → ℕ
 ran zero p = 0
@@ -90,19 +88,19 @@ pub record FromStart (h : Held) : Type 0 where
   pub old_line : Line
   pub settings : Settings
   pub measurement : Measurement
-  pub accepted : (start_of old old_line settings measurement).verdict ≡ Done
+  pub accepted : (start_of old old_line settings measurement).verdict ≡ Ok tt
   pub calls : List Call
   pub held : h ≡ after_all (begun old old_line settings measurement) calls
 
 pub record OfThePort : Type 0 where
   -- the states of the port, call by call, are those of the machine from its start
-  pub states : (old : Port) (l : Line) (s : Settings) (m : Measurement) (cs : List Call) → (start_of old l s m).verdict ≡ Done →
+  pub states : (old : Port) (l : Line) (s : Settings) (m : Measurement) (cs : List Call) → (start_of old l s m).verdict ≡ Ok tt →
       let h = begun old l s m in
       view (after_all h cs).port (after_all h cs).line ≡ run (start lens (started_port s m).source) (events_all h cs)
   -- and the bytes sent are the machine's
-  pub sends : (old : Port) (l : Line) (s : Settings) (m : Measurement) (cs : List Call) → (start_of old l s m).verdict ≡ Done →
+  pub sends : (old : Port) (l : Line) (s : Settings) (m : Measurement) (cs : List Call) → (start_of old l s m).verdict ≡ Ok tt →
       let h = begun old l s m in
       bytes_all h cs ≡ sent (start lens (started_port s m).source) (events_all h cs)
   -- of which demand 3 is proved: 156, 233 and 79
-  pub demand3 : (old : Port) (l : Line) (s : Settings) (m : Measurement) → (start_of old l s m).verdict ≡ Done →
+  pub demand3 : (old : Port) (l : Line) (s : Settings) (m : Measurement) → (start_of old l s m).verdict ≡ Ok tt →
       Promised lens act_by reply_by record_by (started_port s m).source

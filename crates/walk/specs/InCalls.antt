@@ -1,10 +1,9 @@
 -- Demand 3 in the words of calls: what is answered to receive, and the slots that the calls after it run, a fill counted by the slots it runs. From
 -- an accepted start, with no restart between. Statements only.
-use Rattle.std.specs.Prelude.{ℕ, zero, suc, ◌+◌, ◌≤◌, true, ◌&&◌, cond, List, [], ◌∷◌, ◌++◌, ◌≢◌, ◌≡◌, ltb, replicate}
+use Rattle.std.specs.Prelude.{ℕ, zero, suc, ◌+◌, ◌≤◌, true, ◌&&◌, cond, List, [], ◌∷◌, ◌++◌, ◌≢◌, ◌≡◌, ltb, replicate, Option, None, Some, is_some, Ok}
 use Rattle.laws.specs.Flat.{flat}
 use Rattle.refusal.specs.Answer.{is_done}
 use Rattle.machine.specs.Machine.{listed}
-use Rattle.refusal.specs.declared.Verdict.TheVariants.{Done}
 use Rattle.fixed.specs.declared.Settings.{Settings}
 use Rattle.units.specs.declared.Measurement.{Measurement}
 use Rattle.line.specs.declared.Line.{Line}
@@ -14,9 +13,8 @@ use Rattle.state.specs.declared.Source.{Source}
 use Rattle.rules.specs.Does.{does, record_message, continuous}
 use Rattle.rules.specs.Lens.{greeting}
 use Rattle.port.specs.declared.Port.{Port}
-use Rattle.port.specs.declared.Sent.TheVariants as sent
 use Rattle.port.specs.Port.{is_reply, act_of, choose_of, slot_of, receive_of, start_of}
-use Rattle.walk.specs.View.{waits_of, holding, left_of}
+use Rattle.walk.specs.View.{waits_of, left_of}
 use Rattle.walk.specs.Calls.{Call, receive, slots_once, measure, fill, turn, Held, after, ran, after_all, bytes_all, begun, FromStart}
 
 -- the slots that a call runs, and those of a list of calls
@@ -61,7 +59,7 @@ waits_in h = listed (waits_of h.port.waiting)
 
 -- the line that a call acts on: the one that waited, where it waits no longer (a fill takes no line, so it acts on one at most)
 abbrev pub acted_by : Held → Call → List Line
-acted_by h c = cond (after h c).port.waiting.some [] (waits_in h)
+acted_by h c = cond (is_some (after h c).port.waiting) [] (waits_in h)
 
 unfoldable pub acted_all : Held → List Call → List Line
 acted_all h [] = []
@@ -81,8 +79,8 @@ pub record Acted (act_by reply-by : ℕ) (h : Held) (l : Line) (calls : List Cal
   pub rest : List Call
   pub split : calls ≡ mid ++ slots_once ∷ rest
   pub in_time : slots_run h (mid ++ slots_once ∷ []) ≤ act_by
-  pub waits : (some others : List Call) → mid ≡ some ++ others → (after_all h some).port.waiting ≡ holding l
-  pub acts : slot_of (after_all h mid).port ≡ act_of (after_all h mid).port
+  pub waits : (some others : List Call) → mid ≡ some ++ others → (after_all h some).port.waiting ≡ Some l
+  pub acts : slot_of (after_all h mid).port ≡ act_of (after_all h mid).port l
   -- if it has a reply, and the calls go on
   pub replies : reply-by ≤ slots_run h calls → (does (after_all h mid).port.source l).reply ≢ [] → Replied reply-by h l mid rest
 
@@ -99,7 +97,7 @@ pub record Recorded (limit : ℕ) (h : Held) (calls : List Call) : Type 0 where
   pub in_time : slots_run h (mid ++ slots_once ∷ []) ≤ limit
   pub none_underway : (after_all h mid).port.message.at ≡ (after_all h mid).port.message.len
   pub byte : ℕ
-  pub leaves : (slot_of (after_all h mid).port).sent ≡ sent.Byte byte
+  pub leaves : (slot_of (after_all h mid).port).sent ≡ Ok (Some byte)
   pub whole :
       let p = (slot_of (after_all h mid).port).port in
       byte ∷ left_of p.message ≡ record_message p.source
@@ -111,11 +109,12 @@ unfoldable pub else_record : List ℕ → Source → List ℕ
 else_record [] s = cond (continuous s) (record_message s) []
 else_record (b ∷ bs) s = b ∷ bs
 
+abbrev pub given_to : Source → Option Line → List ℕ
+given_to s (Some l) = else_record (does s l).reply (does s l).source
+given_to s None = else_record [] s
+
 unfoldable pub given_at : Port → List ℕ
-given_at p =
-    let d = does p.source p.waiting.line in
-    cond (continuous p.source && is_reply p.last) (record_message p.source)
-    (cond p.waiting.some (else_record d.reply d.source) (else_record [] p.source))
+given_at p = cond (continuous p.source && is_reply p.last) (record_message p.source) (given_to p.source p.waiting)
 
 -- the message that a slot starts, if it starts one: none is under way, and the rules give it
 abbrev pub if_any : List ℕ → List (List ℕ)
@@ -152,12 +151,12 @@ pub record InCalls (act_by reply-by record_by_lem : ℕ) : Type 0 where
   pub in_order : (h : Held) (cs : List Call) → FromStart h → waits_in h ++ taken_all h cs ≡ acted_all h cs ++ waits_in (after_all h cs)
   -- "at or before the 156th slot after its carriage return, and the last byte of its reply, if it has one, leaves at or before the 233rd."
   pub acted_in_time : (h : Held) (b : ℕ) (cs : List Call) → FromStart h → ends h.line b ≡ true →
-      (receive_of h.port h.line b).verdict ≡ Done →
+      (receive_of h.port h.line b).verdict ≡ Ok tt →
       let h' = after h (receive b) in
       act_by ≤ slots_run h' cs → Acted act_by reply-by h' h.line (by_slots h' cs)
   -- so once the calls have run 156 slots, it is the first line that they acted on
   pub acted_first : (h : Held) (b : ℕ) (cs : List Call) → FromStart h → ends h.line b ≡ true →
-      (receive_of h.port h.line b).verdict ≡ Done →
+      (receive_of h.port h.line b).verdict ≡ Ok tt →
       let h' = after h (receive b) in
       act_by ≤ slots_run h' cs → (more : List Line) × (acted_all h' cs ≡ h.line ∷ more)
   -- "While continuous sending stays on, a new record's first byte leaves at or before the 79th slot after the last byte of the record before.":
@@ -165,7 +164,7 @@ pub record InCalls (act_by reply-by record_by_lem : ℕ) : Type 0 where
   pub record_in_time : (h : Held) (cs : List Call) → FromStart h → h.port.message.at ≡ h.port.message.len →
       StaysOn h (by_slots h cs) → record_by_lem ≤ slots_run h cs → Recorded record_by_lem h (by_slots h cs)
   -- "The bytes sent are whole messages end to end, each the one the rules give in the slot it starts; the last may be unfinished."
-  pub whole_messages : (old : Port) (l : Line) (s : Settings) (m : Measurement) (cs : List Call) → (start_of old l s m).verdict ≡ Done →
+  pub whole_messages : (old : Port) (l : Line) (s : Settings) (m : Measurement) (cs : List Call) → (start_of old l s m).verdict ≡ Ok tt →
       WholeMessages (begun old l s m) cs
   -- and where no message is under way, a slot is rules 1 to 4 of the port
   pub by_rules : (h : Held) → FromStart h → h.port.message.at ≡ h.port.message.len → slot_of h.port ≡ choose_of h.port

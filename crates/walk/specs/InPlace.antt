@@ -1,8 +1,7 @@
 -- A driver that keeps its collector in place: it collects each received byte there, and where a line ended it hands that line to the port with
 -- that byte. That is what receive does, so all that is proved of its calls holds of such a driver. Statements only.
-use Rattle.std.specs.Prelude.{ℕ, true, false, cond, List, [], ◌∷◌, ◌++◌, ◌≡◌}
+use Rattle.std.specs.Prelude.{ℕ, true, false, cond, List, [], ◌∷◌, ◌++◌, ◌≡◌, Err, Ok}
 use Rattle.refusal.specs.declared.Refusal.TheVariants as refusal
-use Rattle.refusal.specs.declared.Verdict.TheVariants.{Done, Refused}
 use Rattle.fixed.specs.declared.Settings.{Settings}
 use Rattle.units.specs.declared.Measurement.{Measurement}
 use Rattle.line.specs.declared.Line.{Line}
@@ -39,11 +38,11 @@ pub record InPlace : Type 0 where
   pub ended : (p : Port) (l : Line) (b : ℕ) → (collected l b).ended ≡ true → receive_of p (collected l b).line b ≡ receive_of p l b
   -- a byte that joined leaves the port alone
   pub joined : (p : Port) (l : Line) (b : ℕ) → valid_port p ≡ true → (collected l b).ended ≡ false → (collected l b).number ≡ 0 →
-      ((receive_of p l b).verdict ≡ Done) × ((receive_of p l b).port ≡ p)
+      ((receive_of p l b).verdict ≡ Ok tt) × ((receive_of p l b).port ≡ p)
   -- a count past the buffer is answered 16 by both
-  pub refused : (p : Port) (l : Line) (b : ℕ) → (collected l b).number ≡ 16 → ((receive_of p l b).verdict ≡ Refused refusal.State) × ((receive_of p l b).port ≡ p)
+  pub refused : (p : Port) (l : Line) (b : ℕ) → (collected l b).number ≡ 16 → ((receive_of p l b).verdict ≡ Err refusal.State) × ((receive_of p l b).port ≡ p)
   -- from an accepted start, over every sequence of calls: the states and the bytes of the calls of receive, of which demand 3 is proved
-  pub states : (old : Port) (l : Line) (s : Settings) (m : Measurement) (cs : List Call) → (start_of old l s m).verdict ≡ Done →
+  pub states : (old : Port) (l : Line) (s : Settings) (m : Measurement) (cs : List Call) → (start_of old l s m).verdict ≡ Ok tt →
       all_in_place (begun old l s m) cs ≡ after_all (begun old l s m) cs
-  pub sends : (old : Port) (l : Line) (s : Settings) (m : Measurement) (cs : List Call) → (start_of old l s m).verdict ≡ Done →
+  pub sends : (old : Port) (l : Line) (s : Settings) (m : Measurement) (cs : List Call) → (start_of old l s m).verdict ≡ Ok tt →
       bytes_in_place (begun old l s m) cs ≡ bytes_all (begun old l s m) cs

@@ -1,7 +1,6 @@
 -- The port and the paper's machine walk together: what each entry makes of a valid port is what the machine makes of its view. Statements only.
-use Rattle.std.specs.Prelude.{ℕ, true, ◌≡◌, length}
+use Rattle.std.specs.Prelude.{ℕ, true, ◌≡◌, length, Ok}
 use Rattle.machine.specs.Machine.{received, slot, given, next, shows, sent_in, start}
-use Rattle.refusal.specs.declared.Verdict.TheVariants.{Done}
 use Rattle.fixed.specs.declared.Settings.{Settings}
 use Rattle.units.specs.declared.Measurement.{Measurement}
 use Rattle.line.specs.declared.Line.{Line}
@@ -23,7 +22,7 @@ turned_port t p = record { source = turned t p.source; message = p.message; last
 
 pub record Walks : Type 0 where
   -- an accepted start is the machine's start
-  pub start_walks : (old : Port) (l : Line) (s : Settings) (m : Measurement) → (start_of old l s m).verdict ≡ Done →
+  pub start_walks : (old : Port) (l : Line) (s : Settings) (m : Measurement) → (start_of old l s m).verdict ≡ Ok tt →
       view (start_of old l s m).port (start_of old l s m).line ≡ start lens (started_port s m).source
   -- a slot leaves the machine's next state, and sends its bytes
   pub slot_walks : (p : Port) (l : Line) → Sound p → view (slot_of p).port l ≡ next (view p l) slot

@@ -1,42 +1,21 @@
--- `append::set_by` meets its contract: each return has its law. Assumes nothing.
-use mathlib.Core.Bool.{true}
-use mathlib.Core.Path.{◌≡◌, sym, ap, ◌∙◌}
-use borrow.Author.Tests.{not-true, not-false, leb-true}
-use lib.Dec.{leb}
-use lib.ListN.{length}
-use Rattle.laws.specs.Every.{every}
-use Rattle.laws.proofs.Tests.{and_left}
-use Rattle.note.specs.Note.{longest_note, note_ok}
-use Rattle.append.specs.Append.{did}
+-- `append::set_by` meets its contract: each test is one of `set_by`. Assumes nothing.
+use mathlib.Core.Path.{sym, ap, ◌∙◌}
+use borrow.Author.Tests.{not-true, not-false}
+use Rattle.std.specs.Prelude.{Some}
 use Rattle.append.proofs.Laws.{set_does, set_closed, set_not}
-use Rattle.append.proofs.set_by.Tie as tie
-use Rattle.append.proofs.set_by.Lts as lts
 use Rattle.append.proofs.set_by.Goals as goal
-
-abbrev Else2 : Type 0
-Else2 = lts.Else2 tie.the-claims tie.handed_pre tie.handed_post
+use Rattle.append.proofs.set_by.Goals.{then-not-note-via-then-not-note, then-not-note-via-else-not-note+then-not-is_note}
 
 pub returns-then-not-note : goal.returns-then-not-note
 returns-then-not-note c =
     let a = c.args in
-    c.leave.ensures ∙ sym (set_closed a.note a.s.now (not-true a.note.opened c.if-not-note.true))
-
-pub returns-then-not-is_note : goal.returns-then-not-is_note
-returns-then-not-is_note c =
-    let a = c.args in
-    c.leave-then-not-is_note.ensures ∙ sym (set_not a.note a.s.now (sym c.is_note.ensures ∙ c.if-not-is_note.true))
-
--- where the test passed
-may : (f : Else2) → note_ok f.args.s.now ≡ true
-may f = sym f.is_note.ensures ∙ f.if-not-is_note.false
-
-pub hold-requires : goal.hold-requires
-hold-requires c =
-    let s = c.args.s.now in
-    leb-true (length s) longest_note (and_left (leb (length s) longest_note) (every (λ x. leb 32 x) s) (may c.before))
+    elim c.then-not-note.branch [
+      | then-not-note-via-then-not-note w ↦ sym (set_closed a.note a.s.now (not-true _ w.if-not-note.true))
+      | then-not-note-via-else-not-note+then-not-is_note w ↦ sym (set_not a.note a.s.now (sym w.is_note.ensures ∙ w.if-not-is_note.true))
+    ]
 
 pub returns : goal.returns
 returns c =
     let a = c.args in
-    c.did.ensures ∙ ap did c.hold.ensures
-    ∙ sym (set_does a.note a.s.now (not-false a.note.opened c.if-not-note.false) (may c.before.before.before))
+    ap Some c.hold.ensures
+    ∙ sym (set_does a.note a.s.now (not-false a.note.opened c.if-not-note.false) (sym c.is_note.ensures ∙ c.if-not-is_note.false))

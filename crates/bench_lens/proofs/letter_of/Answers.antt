@@ -1,24 +1,14 @@
--- `bench_lens::letter_of` meets its contract: by whether the word is empty. Assumes nothing.
-use Prim.Native.Nat.{ℕ}
-use mathlib.Core.List.{List, [], ◌∷◌}
-use mathlib.Core.Path.{◌≡◌, refl}
-use native.Mathlib.Omega.{arith}
-use lib.ListN.{length, get_or}
+-- `bench_lens::letter_of` meets its contract: the first byte, or I where there is none. Assumes nothing.
+use Rattle.std.proofs.Common.{◌≡◌, ◌∙◌, ℕ, List, [], ◌∷◌, refl, ap}
+use Rattle.std.specs.List.{slice_get}
+use Rattle.std.specs.Option.{unwrap_or}
 use Rattle.bench_lens.specs.Bench.{letter_of}
 use Rattle.bench_lens.proofs.letter_of.Goals as goal
 
-none : (w : List ℕ) → length w ≡ 0 → 73 ≡ letter_of w
+first : (w : List ℕ) → unwrap_or (slice_get w 0) 73 ≡ letter_of w
 unfolding letter_of
-none [] h = refl
-none (b ∷ w) h = absurd (omega arith)
-
-first : (w : List ℕ) → (length w ≡ 0 → ⊥) → get_or w 0 0 ≡ letter_of w
-unfolding letter_of
-first [] h = absurd (h refl)
-first (b ∷ w) h = refl
-
-pub returns-then-word-eq0 : goal.returns-then-word-eq0
-returns-then-word-eq0 c = none c.args.word.now c.if-word-eq0.true
+first [] = refl
+first (b ∷ w) = refl
 
 pub returns : goal.returns
-returns c = first c.args.word.now c.if-word-eq0.false
+returns c = c.unwrap_or.ensures ∙ ap (λ b. unwrap_or b 73) (c.copied.ensures ∙ c.first.ensures.value) ∙ first c.args.word.now

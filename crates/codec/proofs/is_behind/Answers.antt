@@ -1,59 +1,25 @@
--- `codec::is_behind` meets its contract: what is left of the tags and of the bytes has the whole's answer. Assumes nothing.
-use Prim.Native.Nat.{ℕ, suc, ◌-◌, ◌≤◌, ◌<◌}
-use mathlib.Core.Bool.{false}
-use mathlib.Core.List.{List}
-use mathlib.Core.Path.{◌≡◌, refl, sym, ap, ◌∙◌}
-use native.Mathlib.Numerals.{add-one}
-use native.Mathlib.Omega.{arith}
-use borrow.Author.Rules.{rules}
-use borrow.Author.Tests.{eq-eqb, ne_eqb}
-use lib.ListN.{length, get_or, take, drop, drop_of_length-le, length-drop}
-use lib.Seq.{drop-cons, take_all}
-use Rattle.codec.specs.Codec.{printable, text_behind}
+-- `codec::is_behind` meets its contract: a text behind tags is the tags in front, and a text behind them. Assumes nothing.
+use Rattle.std.proofs.Common.{◌≡◌, ◌+◌, ℕ, Bool, true, false, ◌&&◌, List, [], ◌∷◌, length, take, drop, nat_eq, refl, sym, ap, ◌∙◌, Option, None, Some, Bor}
+use Rattle.std.specs.Option.{MatchOption}
+use lib.Pointwise.{pointwise}
+use Rattle.laws.proofs.Tests.{told}
+use Rattle.codec.specs.Codec.{text_behind, printable}
 use Rattle.codec.proofs.is_behind.Goals as goal
 
--- what the byte at i decides
-module _ (tags s : List ℕ) (i : ℕ) (more : i < length tags) where
-  short : length s ≤ i → text_behind (drop i tags) (drop i s) ≡ false
-  unfolding text_behind
-  short h = rw (drop-cons tags i 0 more, drop_of_length-le s h)
+abbrev front : List ℕ → List ℕ → Bool
+front tags s = pointwise nat_eq (take (length tags) s) tags
 
-  other : i < length s → (get_or s i 0 ≡ get_or tags i 0 → ⊥) → text_behind (drop i tags) (drop i s) ≡ false
-  unfolding text_behind
-  other h n = rw (drop-cons tags i 0 more, drop-cons s i 0 h, ne_eqb _ _ n)
-
-  next : i < length s → get_or s i 0 ≡ get_or tags i 0 → text_behind (drop i tags) (drop i s) ≡ text_behind (drop (suc i) tags) (drop (suc i) s)
-  unfolding text_behind
-  next h e = rw (drop-cons tags i 0 more, drop-cons s i 0 h, eq-eqb _ _ e)
-
--- behind the last tag
-rest : (tags s : List ℕ) (i : ℕ) → length tags ≤ i → printable (take (length s - i) (drop i s)) ≡ text_behind (drop i tags) (drop i s)
+in_two : (tags s : List ℕ) → text_behind tags s ≡ (front tags s && printable (drop (length tags) s))
 unfolding text_behind
-rest tags s i h = rw (drop_of_length-le tags h) (ap printable (take_all (length s - i) (drop i s) (simp length-drop (omega arith))))
+in_two [] s = refl
+in_two (t ∷ ts) [] = refl
+in_two (t ∷ ts) (x ∷ s) = told (nat_eq x t) (λ e. rw e (in_two ts s)) (λ e. rw e)
 
-pub loop-i-init : goal.loop-i-init
-loop-i-init c = (search rules, search rules, refl)
-
-pub returns-then-s-i : goal.returns-then-s-i
-returns-then-s-i c =
-    let l = c.before.loop-i in
-    sym (l.invariant.2 ∙ short _ _ l.i c.before.loop-i-test.true c.if-s-i.true)
-
-pub returns-then-s-i-2 : goal.returns-then-s-i-2
-returns-then-s-i-2 c =
-    let e = c.before.before.before.before in
-    let l = e.loop-i in
-    sym (l.invariant.2 ∙ other _ _ l.i e.loop-i-test.true e.if-s-i.false c.if-s-i-2.true)
-
-pub loop-i-preserved : goal.loop-i-preserved
-loop-i-preserved c =
-    let e = c.before.before.before.before in
-    let l = e.loop-i in
-    (omega arith, omega arith, rw add-one (l.invariant.2 ∙ next _ _ l.i e.loop-i-test.true e.if-s-i.false c.if-s-i-2.false))
+answered : (tags s : List ℕ) (r : Option (Bor (List ℕ))) (b : Bool) →
+    MatchOption r (front tags s ≡ false) (λ x. (front tags s ≡ true) × (x.now ≡ drop (length tags) s) × (length x.now + length tags ≡ length s)) →
+    MatchOption r (b ≡ false) (λ x. b ≡ printable x.now) → b ≡ text_behind tags s
+answered tags s None b h k = k ∙ sym (in_two tags s ∙ rw h)
+answered tags s (Some x) b h k = k ∙ ap printable h.1 ∙ sym (in_two tags s ∙ rw h.0)
 
 pub returns : goal.returns
-returns c =
-    let t = c.before.before.before in
-    let l = t.loop-i in
-    let a = t.args in
-    c.is_text.ensures ∙ rest a.tags.now a.s.now l.i t.loop-i-test.false ∙ sym l.invariant.2
+returns c = answered _ _ _ _ c.strip_prefix.ensures.cases c.is_some_and.ensures

@@ -4,14 +4,13 @@ use mathlib.Core.List.{List, [], ◌∷◌}
 use mathlib.Core.Path.{◌≡◌, refl}
 use native.Mathlib.Omega.{arith}
 use lib.ListN.{length}
+use Rattle.std.specs.Prelude.{None, Option}
 use Rattle.digits.specs.Digits.{read_decimal}
-use Rattle.digits.specs.declared.Field.{Field}
-use Rattle.digits.specs.declared.Field.TheVariants.{Wrong}
 use Rattle.codec.specs.Codec.{read_tagged}
 use Rattle.codec.proofs.Fields.{untagged, behind_tag}
 use Rattle.codec.proofs.read_tagged.Goals as goal
 
-none : (t : ℕ) (read : List ℕ → Field) (s : List ℕ) → length s ≡ 0 → Wrong ≡ read_tagged t read s
+none : (t : ℕ) (read : List ℕ → Option ℕ) (s : List ℕ) → length s ≡ 0 → None ≡ read_tagged t read s
 unfolding read_tagged
 none t read [] h = refl
 none t read (x ∷ s) h = absurd (omega arith)

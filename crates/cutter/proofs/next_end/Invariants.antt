@@ -1,11 +1,7 @@
-use Prim.Native.Nat.{◌-◌, ◌≤◌}
 use mathlib.Core.Path.{◌≡◌}
-use lib.ListN.{length, drop}
+use lib.ListN.{drop}
 use Rattle.cutter.specs.Cutter.{end_from, lf_before}
 use Rattle.cutter.proofs.next_end.Given as goal
 
 abbrev pub invariant-loop-i : goal.invariant-loop-i
-invariant-loop-i l = (l.i ≤ length l.stream) × (end_from l.lf 0 l.stream ≡ end_from (lf_before l.lf l.stream l.i) l.i (drop l.i l.stream))
-
-abbrev pub decreases-loop-i : goal.decreases-loop-i
-decreases-loop-i l = length l.stream - l.i
+invariant-loop-i l = end_from l.lf 0 l.stream ≡ end_from (lf_before l.lf l.stream l.i) l.i (drop l.i l.stream)

@@ -2,7 +2,4 @@ use Rattle.std.proofs.Common.{◌≡◌, ◌*◌, ◌%◌, ◌^◌, ◌≤◌}
 use Rattle.digits.proofs.held.Given as goal
 
 abbrev pub invariant-loop-zeros : goal.invariant-loop-zeros
-invariant-loop-zeros l = (l.width ≤ l.zeros) × (l.zeros ≤ 7) × (l.x ≡ 256 * (l.n % 10 ^ l.zeros))
-
-abbrev pub decreases-loop-zeros : goal.decreases-loop-zeros
-decreases-loop-zeros l = l.zeros
+invariant-loop-zeros l = (l.width ≤ l.zeros) × (l.x ≡ 256 * (l.n % 10 ^ l.zeros))

@@ -5,10 +5,10 @@ use Rattle.digits.proofs.FromTheEnd.{no_room, one, begun, goes_on, ended}
 use Rattle.digits.proofs.put_groups.Goals as goal
 
 pub returns-then-not-has_room : goal.returns-then-not-has_room
-returns-then-not-has_room c = no_room 64 64 (omega arith) _ _ _ _ (leb-false _ _ (sym c.before.has_room.ensures ∙ c.if-not-has_room.true))
+returns-then-not-has_room c = no_room 64 64 (omega arith) _ _ _ _ (leb-false _ _ (sym c.has_room.ensures ∙ c.if-not-has_room.true))
 
 pub loop-left-init : goal.loop-left-init
-loop-left-init c = begun 64 64 (omega arith) _ _ _ _ (leb-true _ _ (sym c.before.has_room.ensures ∙ c.if-not-has_room.false))
+loop-left-init c = begun 64 64 (omega arith) _ _ _ _ (leb-true _ _ (sym c.has_room.ensures ∙ c.if-not-has_room.false))
 
 pub loop-left-preserved : goal.loop-left-preserved
 loop-left-preserved c =

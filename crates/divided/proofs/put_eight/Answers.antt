@@ -1,10 +1,9 @@
--- `divided::put_eight` meets its contract: a half, and the other one on from where it ended. Assumes nothing.
-use Rattle.divided.proofs.Stored.{eight_stored}
+-- `divided::put_eight` meets its contract: the library's bytes are those of the word, and the part copied to is one write. Assumes nothing.
+use Rattle.std.proofs.Common.{refl, ◌∙◌}
+use Rattle.laws.specs.Lowest.{lowest_first}
+use Rattle.divided.proofs.Stored.{eight_bytes, copied}
 use Rattle.divided.proofs.put_eight.Goals as goal
 
 pub returns : goal.returns
-returns c =
-    let w2 = c.before.before.before in
-    let w1 = w2.before.before.before.before in
-    let b = w1.before.before.before in
-    eight_stored b.args.out.now b.args.at b.args.w w1.put_four.ensures w2.put_four-2.ensures b.requires
+unfolding lowest_first
+returns c = copied _ _ (lowest_first 8 c.args.w) _ 8 (c.copy_from_slice.ensures.after ∙ c.to_le_bytes.ensures ∙ eight_bytes c.args.w) refl c.requires

@@ -1,17 +1,9 @@
--- `divided::put_four` meets its contract: four stores, one behind the other. Assumes nothing.
-use native.Mathlib.Omega.{arith}
-use lib.ListN.{length-set}
-use Rattle.divided.proofs.Stored.{four_stored}
+-- `divided::put_four` meets its contract: the library's bytes are those of the word, and the part copied to is one write. Assumes nothing.
+use Rattle.std.proofs.Common.{refl, ◌∙◌}
+use Rattle.laws.specs.Lowest.{lowest_first}
+use Rattle.divided.proofs.Stored.{four_bytes, copied}
 use Rattle.divided.proofs.put_four.Goals as goal
 
-pub bounds-out-at-2 : goal.bounds-out-at-2
-bounds-out-at-2 c = simp length-set (omega arith)
-
-pub bounds-out-at-3 : goal.bounds-out-at-3
-bounds-out-at-3 c = simp length-set (omega arith)
-
-pub bounds-out-at-4 : goal.bounds-out-at-4
-bounds-out-at-4 c = simp length-set (omega arith)
-
 pub returns : goal.returns
-returns c = four_stored c.args.out.now c.args.at c.args.w c.requires (omega arith)
+unfolding lowest_first
+returns c = copied _ _ (lowest_first 4 c.args.w) _ 4 (c.copy_from_slice.ensures.after ∙ c.to_le_bytes.ensures ∙ four_bytes c.args.w) refl c.requires

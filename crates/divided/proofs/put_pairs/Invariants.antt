@@ -1,8 +1,6 @@
+use Rattle.std.proofs.Common.{◌+◌, ◌*◌}
 use Rattle.digits.proofs.FromTheEnd.{Written}
 use Rattle.divided.proofs.put_pairs.Given as goal
 
-abbrev pub invariant-loop-left : goal.invariant-loop-left
-invariant-loop-left l = Written 10 48 l.initial.out l.at l.width l.n l.out l.left l.m
-
-abbrev pub decreases-loop-left : goal.decreases-loop-left
-decreases-loop-left l = l.left
+abbrev pub invariant-loop-pair : goal.invariant-loop-pair
+invariant-loop-pair l = Written 10 48 l.initial.out l.at l.width l.n l.out (l.odd + 2 * l.pair) l.m

@@ -5,26 +5,16 @@ use lib.ListN.{length}
 use Rattle.codec.proofs.Texts.{text_fine}
 use Rattle.fixed.specs.Fixed.{settings_lowest}
 use Rattle.fixed.proofs.Fine.{fine_here, fine_group, fine_last, table_fine}
-use Rattle.fixed.proofs.are_settings.Tie as tie
-use Rattle.fixed.proofs.are_settings.Lts as lts
 use Rattle.fixed.proofs.are_settings.Goals as goal
-
-abbrev Start : Type 0
-Start = lts.Start tie.the-claims tie.handed_pre tie.handed_post
-
-fifteen : (b : Start) → length b.args.s.maker ≡ 15
-fifteen b = search rules
-
-thirty : (b : Start) → length b.args.s.type_name ≡ 30
-thirty b = search rules
-
-thirty_two : (b : Start) → length b.args.s.blur ≡ 32
-thirty_two b = search rules
 
 pub returns : goal.returns
 unfolding settings_lowest
 returns c =
+    let s = c.args.s in
+    let fifteen : length s.maker ≡ 15 = search rules in
+    let thirty : length s.type_name ≡ 30 = search rules in
+    let thirty_two : length s.blur ≡ 32 = search rules in
     fine_group _ _ c.is_fixed-items.ensures
-    (fine_here 8 _ (text_fine 15 c.args.s.maker (fifteen c.before.before.before.before.before.before.before.before.before.before.before) c.is_text-maker.ensures)
-    (fine_here 9 _ (text_fine 30 c.args.s.type_name (thirty c.before.before.before.before.before.before.before.before.before.before.before) c.is_text-type_name.ensures)
-    (fine_last 10 (table_fine c.args.s.blur (thirty_two c.before.before.before.before.before.before.before.before.before.before.before) c.is_blur-blur.ensures))))
+    (fine_here 8 _ (text_fine 15 s.maker fifteen c.is_text-maker.ensures)
+    (fine_here 9 _ (text_fine 30 s.type_name thirty c.is_text-type_name.ensures)
+    (fine_last 10 (table_fine s.blur thirty_two c.is_blur-blur.ensures))))

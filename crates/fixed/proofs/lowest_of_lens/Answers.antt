@@ -12,33 +12,33 @@ returns-then-not-is_kind c = wrong_here 2 _ (sym c.is_kind.ensures ∙ c.if-not-
 pub returns-then-l-gt999 : goal.returns-then-l-gt999
 unfolding lens_lowest
 returns-then-l-gt999 c =
-    right_here 3 (sym c.is_kind.ensures ∙ c.if-not-is_kind.false) (wrong_here 3 _ (lt-leb _ _ c.if-l-gt999.true))
+    right_here 3 _ (sym c.is_kind.ensures ∙ c.if-not-is_kind.false) (wrong_here 3 _ (lt-leb _ _ c.if-l-gt999.true))
 
 pub returns-then-l-gt999-2 : goal.returns-then-l-gt999-2
 unfolding lens_lowest
 returns-then-l-gt999-2 c =
-    right_here 3 (sym c.is_kind.ensures ∙ c.if-not-is_kind.false)
-    (right_here 4 (le-leb _ _ c.if-l-gt999.false) (wrong_here 4 _ (lt-leb _ _ c.if-l-gt999-2.true)))
+    right_here 3 _ (sym c.is_kind.ensures ∙ c.if-not-is_kind.false)
+    (right_here 4 _ (le-leb _ _ c.if-l-gt999.false) (wrong_here 4 _ (lt-leb _ _ c.if-l-gt999-2.true)))
 
 pub returns-then-not-is_letter : goal.returns-then-not-is_letter
 unfolding lens_lowest
 returns-then-not-is_letter c =
-    right_here 3 (sym c.is_kind.ensures ∙ c.if-not-is_kind.false)
-    (right_here 4 (le-leb _ _ c.if-l-gt999.false)
-    (right_here 5 (le-leb _ _ c.if-l-gt999-2.false) (wrong_here 5 _ (sym c.is_letter.ensures ∙ c.if-not-is_letter.true))))
+    right_here 3 _ (sym c.is_kind.ensures ∙ c.if-not-is_kind.false)
+    (right_here 4 _ (le-leb _ _ c.if-l-gt999.false)
+    (right_here 5 _ (le-leb _ _ c.if-l-gt999-2.false) (wrong_here 5 _ (sym c.is_letter.ensures ∙ c.if-not-is_letter.true))))
 
 pub returns-then-l-gt99 : goal.returns-then-l-gt99
 unfolding lens_lowest
 returns-then-l-gt99 c =
-    right_here 3 (sym c.is_kind.ensures ∙ c.if-not-is_kind.false)
-    (right_here 4 (le-leb _ _ c.if-l-gt999.false)
-    (right_here 5 (le-leb _ _ c.if-l-gt999-2.false)
-    (right_here 6 (sym c.is_letter.ensures ∙ c.if-not-is_letter.false) (wrong_last 7 (lt-leb _ _ c.if-l-gt99.true)))))
+    right_here 3 _ (sym c.is_kind.ensures ∙ c.if-not-is_kind.false)
+    (right_here 4 _ (le-leb _ _ c.if-l-gt999.false)
+    (right_here 5 _ (le-leb _ _ c.if-l-gt999-2.false)
+    (right_here 6 _ (sym c.is_letter.ensures ∙ c.if-not-is_letter.false) (wrong_last 6 (lt-leb _ _ c.if-l-gt99.true)))))
 
 pub returns : goal.returns
 unfolding lens_lowest
 returns c =
-    right_here 3 (sym c.is_kind.ensures ∙ c.if-not-is_kind.false)
-    (right_here 4 (le-leb _ _ c.if-l-gt999.false)
-    (right_here 5 (le-leb _ _ c.if-l-gt999-2.false)
-    (right_here 6 (sym c.is_letter.ensures ∙ c.if-not-is_letter.false) (right_last 7 (le-leb _ _ c.if-l-gt99.false)))))
+    right_here 3 _ (sym c.is_kind.ensures ∙ c.if-not-is_kind.false)
+    (right_here 4 _ (le-leb _ _ c.if-l-gt999.false)
+    (right_here 5 _ (le-leb _ _ c.if-l-gt999-2.false)
+    (right_here 6 _ (sym c.is_letter.ensures ∙ c.if-not-is_letter.false) (right_last 7 (le-leb _ _ c.if-l-gt99.false)))))

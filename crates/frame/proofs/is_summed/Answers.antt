@@ -1,17 +1,16 @@
--- `frame::is_summed` meets its contract. Assumes nothing.
-use Prim.Native.Nat.{◌+◌}
-use mathlib.Core.Bool.{◌&&◌}
-use mathlib.Core.Path.{ap}
-use native.Mathlib.Nat.{sub-zero}
-use lib.Dec.{eqb}
-use lib.ListN.{get_or}
+-- `frame::is_summed` meets its contract: the two bytes at the place are those of the checksum. Assumes nothing.
+use Rattle.std.proofs.Common.{◌≡◌, ◌+◌, ◌-◌, ◌&&◌, eqb, get_or, ap, ◌∙◌, arith}
+use Rattle.std.proofs.Math.Bool.{and-true}
 use Rattle.frame.specs.Frame.{sums}
 use Rattle.frame.specs.declared.Sum.{Sum}
+use Rattle.frame.proofs.Pair.{pair_at}
 use Rattle.frame.proofs.is_summed.Goals as goal
 
 pub returns : goal.returns
 unfolding sums
 returns c =
-    let a = c.args in
-    rw (sub-zero a.width) at
-    (ap (λ (x : Sum). eqb (get_or a.m.now a.width 0) x.high && eqb (get_or a.m.now (a.width + 1) 0) x.low) c.sum_of-sum.ensures)
+    let m = c.args.m.now in
+    let w = c.args.width in
+    let two : w + 2 - w ≡ 2 = omega arith in
+    c.eq.ensures ∙ rw (two, pair_at m w c.requires, and-true)
+    (ap (λ (x : Sum). eqb (get_or m w 0) x.high && eqb (get_or m (w + 1) 0) x.low) c.sum_of-sum.ensures)

@@ -3,19 +3,19 @@ use Prim.Native.Nat.{ℕ, ◌≤◌, ◌<◌}
 use mathlib.Core.Path.{◌≡◌}
 use native.Mathlib.Omega.{arith}
 use borrow.Author.Tests.{le-leb, lt-leb}
+use Rattle.std.specs.Prelude.{Err, Ok}
 use Rattle.refusal.specs.Answer.{unless}
 use Rattle.refusal.specs.declared.Refusal.TheVariants.{Room}
-use Rattle.frame.specs.Message.{room_for, wrote_of}
-use Rattle.frame.specs.declared.Wrote.TheVariants as wrote
+use Rattle.frame.specs.Message.{room_for}
 use Rattle.frame.proofs.Exactly.{ending_short}
 use Rattle.frame.proofs.room_for.Goals as goal
 
 module _ {n m len : ℕ} (e : n ≡ m) where
-  short : len < n → wrote.Refused (Room n) ≡ wrote_of (room_for m len)
+  short : len < n → Err (Room n) ≡ (room_for m len)
   unfolding room_for unless
   short h = rw (← e, lt-leb n len h)
 
-  fits : n ≤ len → wrote.Count n ≡ wrote_of (room_for m len)
+  fits : n ≤ len → Ok n ≡ (room_for m len)
   unfolding room_for unless
   fits h = rw (← e, le-leb n len h)
 

@@ -5,4 +5,4 @@ use Rattle.hourheron.specs.declared.Answer.{Answer}
 use Rattle.hourheron.proofs.handed.Goals as goal
 
 pub returns : goal.returns
-returns c = let t = c.args.cut in ap (λ (x : Answer). cut_with x t.used t.ended t.cutter) c.answer_to-answer.ensures
+returns c = let t = c.args.cut in ap (λ (x : Answer). cut_with x t.used t.ended t.cutter) c.answer_of-answer.ensures

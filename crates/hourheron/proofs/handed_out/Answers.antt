@@ -6,4 +6,4 @@ use Rattle.hourheron.proofs.handed_out.Goals as goal
 pub returns : goal.returns
 returns c =
     let s = c.args.sending in
-    ap (λ (x : Answer). record { number = x.number; value = x.value; recorder = s.recorder }) c.answer_to-answer.ensures
+    ap (λ (x : Answer). record { number = x.number; value = x.value; recorder = s.recorder }) c.answer_of-answer.ensures

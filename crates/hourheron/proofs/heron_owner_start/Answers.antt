@@ -1,28 +1,12 @@
 -- `hourheron::heron_owner_start` meets its contract: refused as the message is, or where an owner's text starts. Assumes nothing.
-use mathlib.Core.Path.{◌≡◌}
-use Rattle.frame.specs.Message.{afterwards, read_of}
-use Rattle.fixed.specs.Form.{fixed_form}
-use Rattle.hourheron.specs.Host.{told_by, asked_of}
-use Rattle.hourheron.proofs.Answers.{fixed_told}
-use Rattle.hourheron.proofs.heron_owner_start.Tie as tie
-use Rattle.hourheron.proofs.heron_owner_start.Lts as lts
+use mathlib.Core.Path.{sym, ◌∙◌}
+use Rattle.hourheron.specs.Host.{asked_of}
 use Rattle.hourheron.proofs.heron_owner_start.Goals as goal
 
-abbrev After-read_fixed : Type 0
-After-read_fixed = lts.After-read_fixed tie.the-claims tie.handed_pre tie.handed_post
+pub returns-in-Ok : goal.returns-in-Ok
+unfolding asked_of
+returns-in-Ok c = rw (sym c.read_fixed.ensures ∙ c.in-Ok.is) c.done.ensures
 
--- the message's answer, by what the reader told
-read : (c : After-read_fixed) →
-    let a = c.args in
-    told_by c.read_fixed-read.result.verdict c.read_fixed-read.result.contents ≡ read_of fixed_form a.checksum a.message.now
-read c = fixed_told (read_of fixed_form c.args.checksum c.args.message.now) c.read_fixed-read.ensures
-
-pub returns-in-Done : goal.returns-in-Done
-unfolding afterwards asked_of
-returns-in-Done c =
-    rw (← read c.before.before.before, c.in-Done.is) c.done.ensures
-
-pub returns-in-Refused : goal.returns-in-Refused
-unfolding afterwards asked_of
-returns-in-Refused c =
-    rw (← read c.before.before.before, c.in-Refused.is) c.refuse.ensures
+pub returns-in-Err : goal.returns-in-Err
+unfolding asked_of
+returns-in-Err c = rw (sym c.read_fixed.ensures ∙ c.in-Err.is) c.refuse.ensures

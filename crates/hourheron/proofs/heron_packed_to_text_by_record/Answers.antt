@@ -6,4 +6,4 @@ use Rattle.hourheron.proofs.heron_packed_to_text_by_record.Goals as goal
 pub returns : goal.returns
 returns c =
     let a = c.args in
-    lays_made (λ l. l) (turned_length a.checksum) (turned a.checksum a.message.now) a.out.now c.by_record.ensures c.answer_to.ensures
+    lays_made (λ l. l) (turned_length a.checksum) (turned a.checksum a.message.now) a.out.now c.by_record.ensures c.answer_of.ensures

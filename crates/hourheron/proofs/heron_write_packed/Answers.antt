@@ -11,4 +11,4 @@ pub returns : goal.returns
 returns c =
     let a = c.args in
     let stands = stands_record packed_form packed_lowest _ a.serial.now c.record_from-record.ensures in
-    rw (to_z-of_z c.ranges.pupil) at (writes_given packed_form Field a.checksum a.out.now stands c.write_packed.ensures c.answer_to.ensures)
+    rw (to_z-of_z c.ranges.pupil) at (writes_given packed_form Field a.checksum a.out.now stands c.write_packed.ensures c.answer_of.ensures)

@@ -1,13 +1,20 @@
--- `hourheron::lay_taken` meets its contract: its test is that of the definition. Assumes nothing.
+-- `hourheron::lay_taken` meets its contract, case by case. Assumes nothing.
 use mathlib.Core.Path.{refl}
 use Rattle.hourheron.specs.Takes.{take_in, take_left}
 use Rattle.hourheron.proofs.lay_taken.Goals as goal
 
-pub returns-then-taken : goal.returns-then-taken
+pub returns-in-Ok-Some : goal.returns-in-Ok-Some
 unfolding take_in take_left
-returns-then-taken c =
-    rw c.if-taken.true c.lay_made.ensures
+returns-in-Ok-Some c =
+    let q = rw c.in-Ok-Some.is at c.in-Ok-Some.field-0-is in
+    rw (c.in-Ok-Some.is, q) c.lay_reading.ensures
 
-pub returns : goal.returns
+pub returns-in-Ok-None : goal.returns-in-Ok-None
 unfolding take_in take_left
-returns c = rw c.if-taken.false (record { answers = c.answer_beside.ensures; leaves = refl })
+returns-in-Ok-None c =
+    let q = rw c.in-Ok-None.is at c.in-Ok-None.field-0-is in
+    rw (c.in-Ok-None.is, q) (record { answers = c.done.ensures; leaves = refl })
+
+pub returns-in-Err : goal.returns-in-Err
+unfolding take_in take_left
+returns-in-Err c = rw c.in-Err.is (record { answers = c.refuse.ensures; leaves = refl })

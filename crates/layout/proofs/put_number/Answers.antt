@@ -1,11 +1,6 @@
 -- `layout::put_number` meets its contract: before each turn, what is left to write makes of the memory what the whole write does. Assumes nothing.
-use Prim.Native.Nat.{ℕ, suc, ◌+◌, ◌-◌, ◌/◌, ◌%◌, ◌≤◌, ◌<◌}
-use mathlib.Core.List.{List}
-use mathlib.Core.Path.{◌≡◌, refl, sym, ◌∙◌}
-use native.Mathlib.Nat.{add_assoc, add-zero, sub_self, sub-zero}
-use native.Mathlib.Omega.{arith}
-use borrow.Author.Tests.{leb-true, leb-false}
-use lib.ListN.{length, set, length-set}
+use Rattle.std.proofs.Common.{◌≡◌, ℕ, suc, ◌+◌, ◌-◌, ◌/◌, ◌%◌, ◌<◌, ◌≤◌, List, length, set, sym, ◌∙◌, add_assoc, arith, leb-false, length-set}
+use native.Mathlib.Nat.{sub_self}
 use Rattle.laws.specs.Lowest.{lowest_first}
 use Rattle.laws.specs.Over.{over}
 use Rattle.laws.proofs.OverLaws.{over_short, over_none, over_byte}
@@ -32,25 +27,15 @@ returns-then-not-has_room c =
     let short = sym c.has_room.ensures ∙ c.if-not-has_room.true in
     sym (over_short a.out.now (lowest_first a.width a.n) a.at (rw (number_long a.width a.n) (leb-false _ _ short)))
 
-pub loop-i-init : goal.loop-i-init
-loop-i-init c =
-    let room = sym c.has_room.ensures ∙ c.if-not-has_room.false in
-    (leb-true _ _ room, omega arith, refl, rw (add-zero, sub-zero))
-
 pub loop-i-preserved : goal.loop-i-preserved
 loop-i-preserved c =
     let a = c.args in
     let l = c.loop-i in
     let v = l.invariant in
-    let more = c.loop-i-test.true in (
-      v.0,
-      omega arith,
-      simp length-set v.2,
-      turn _ a.at a.width l.m l.i (omega arith) more ∙ v.3,
-    )
+    (simp length-set v.0, turn l.out a.at a.width l.m l.i v.0 c.loop-i-test.true ∙ v.1)
 
 pub returns : goal.returns
 returns c =
     let a = c.args in
     let l = c.loop-i in
-    sym (ended _ a.at a.width l.m l.i (omega arith) (omega arith)) ∙ l.invariant.3
+    sym (ended l.out a.at a.width l.m l.i l.invariant.0 (omega arith)) ∙ l.invariant.1

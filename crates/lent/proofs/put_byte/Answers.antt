@@ -5,8 +5,8 @@ use native.Mathlib.Omega.{arith}
 use Rattle.laws.proofs.OverLaws.{over_short, sets_over}
 use Rattle.lent.proofs.put_byte.Goals as goal
 
-pub returns-then-out-at : goal.returns-then-out-at
-returns-then-out-at c = sym (over_short _ _ _ (omega arith))
+pub returns-then-at-out : goal.returns-then-at-out
+returns-then-at-out c = sets_over _ (_ ∷ []) _ (omega arith)
 
-pub returns : goal.returns
-returns c = sets_over _ (_ ∷ []) _ (omega arith)
+pub returns-else-at-out : goal.returns-else-at-out
+returns-else-at-out c = sym (over_short _ _ _ (omega arith))

@@ -1,43 +1,52 @@
--- `nreader::trimmed_length` meets its contract: what is left to look at has the whole's answer. Assumes nothing.
-use Prim.Native.Nat.{ℕ, suc, ◌-◌, ◌<◌}
+-- `nreader::trimmed_length` meets its contract: behind the last byte that is no space there are only spaces. Assumes nothing.
+use Prim.Native.Nat.{ℕ, zero, suc, ◌<◌, ◌≤◌, ◌+◌, ◌-◌}
 use mathlib.Core.List.{List}
-use mathlib.Core.Path.{◌≡◌, refl, sym, ap, ◌∙◌}
+use mathlib.Core.Path.{◌≡◌, sym, ap, ◌∙◌}
 use native.Mathlib.Omega.{arith}
-use borrow.Author.Tests.{eq-eqb, ne_eqb}
-use lib.ListN.{get_or}
-use Rattle.nreader.specs.Reader.{unspaced}
 use borrow.Author.Rules.{rules}
+use borrow.Author.Tests.{eq-eqb, ne_eqb}
+use lib.ListN.{length, get_or}
+use Rattle.std.proofs.Common.{Option, Some, None, MatchOption}
+use Rattle.nreader.specs.Reader.{unspaced}
+use Rattle.std.proofs.lemmas.Grind.{common_steps}
 use Rattle.nreader.proofs.trimmed_length.Goals as goal
 
--- the step, at n above 0
-module _ (s : List ℕ) (n : ℕ) (some : 0 < n) where
-  pred : n ≡ suc (n - 1)
-  pred = omega arith
+-- only spaces stand behind the first n bytes
+spaces_behind : (s : List ℕ) (m n : ℕ) → ((k : ℕ) → n ≤ k → k < n + m → get_or s k 0 ≡ 32) → unspaced s (n + m) ≡ unspaced s n
+unfolding unspaced
+spaces_behind s zero n spaces = let e : n + 0 ≡ n = omega arith in ap (unspaced s) e
+spaces_behind s (suc m) n spaces =
+    let e : n + suc m ≡ suc (n + m) = omega arith in
+    ap (unspaced s) e ∙ rw (eq-eqb _ _ (spaces (n + m) (omega arith) (omega arith))) (spaces_behind s m n (λ k low high. spaces k low (omega arith)))
 
-  kept : (get_or s (n - 1) 0 ≡ 32 → ⊥) → n ≡ unspaced s n
+-- the last byte that is no space
+last_kept : (s : List ℕ) (i : ℕ) → (get_or s i 0 ≡ 32 → ⊥) → unspaced s (suc i) ≡ suc i
+unfolding unspaced
+last_kept s i k = rw (ne_eqb _ _ k)
+
+-- what was found is told as a length
+module _ (s : List ℕ) (r : ℕ) where
+  abbrev Found : Option ℕ → Type 0
+  Found o =
+      MatchOption o ((k : ℕ) → k < length s → get_or s k 0 ≡ 32)
+      (λ i. (i < length s) × (get_or s i 0 ≡ 32 → ⊥) × ((k : ℕ) → i < k → k < length s → get_or s k 0 ≡ 32))
+
+  told_length : (o : Option ℕ) → Found o → MatchOption o (r ≡ 0) (λ i. r ≡ i + 1) → r ≡ unspaced s (length s)
   unfolding unspaced
-  kept k = pred ∙ sym (ap (unspaced s) pred ∙ rw (ne_eqb _ _ k))
-
-  cut : get_or s (n - 1) 0 ≡ 32 → unspaced s n ≡ unspaced s (n - 1)
-  unfolding unspaced
-  cut k = ap (unspaced s) pred ∙ rw (eq-eqb _ _ k)
-
-pub loop-n-init : goal.loop-n-init
-loop-n-init c = (search rules, refl)
-
-pub returns-then-s-n-ne32 : goal.returns-then-s-n-ne32
-returns-then-s-n-ne32 c =
-    let l = c.loop-n in
-    kept _ l.n c.loop-n-test.true c.if-s-n-ne32.true ∙ sym l.invariant.1
-
-pub loop-n-preserved : goal.loop-n-preserved
-loop-n-preserved c =
-    let l = c.loop-n in
-    (omega arith, l.invariant.1 ∙ cut _ l.n c.loop-n-test.true c.if-s-n-ne32.false)
+  told_length None spaces e =
+      let n : 0 + length s ≡ length s = omega arith in
+      e ∙ sym (ap (unspaced s) (sym n) ∙ spaces_behind s (length s) 0 (λ k low high. spaces k (omega arith)))
+  told_length (Some i) found e =
+      let fits = found.0 in
+      let n : suc i + (length s - suc i) ≡ length s = omega arith in
+      let more : suc i ≡ r = omega arith in
+      sym (ap (unspaced s) (sym n) ∙ spaces_behind s (length s - suc i) (suc i) (λ k low high. found.2 k (omega arith) (omega arith)) ∙ last_kept s i found.1 ∙ more)
 
 pub returns : goal.returns
-unfolding unspaced
 returns c =
-    let l = c.loop-n in
-    let e : l.n ≡ 0 = omega arith in
-    sym (l.invariant.1 ∙ ap (unspaced c.args.s.now) e)
+    let s = c.args.s.now in
+    let r = c.map_or.result in
+    let o = c.rposition.result in
+    let found : Found s r o = grind (arith, common_steps) in
+    let says : MatchOption o (r ≡ 0) (λ i. r ≡ i + 1) = search rules in
+    told_length s r o found says

@@ -16,4 +16,4 @@ returns c =
     (next _ c.put_tagged-2.ensures refl
     (next _ c.put_pair-2.ensures refl
     (last _ c.put_tagged-3.ensures refl)))))
-    (omega (arith, c.requires))
+    (omega (arith, c.told-out))

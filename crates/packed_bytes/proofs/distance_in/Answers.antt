@@ -1,7 +1,10 @@
 -- `packed_bytes::distance_in` meets its contract: the laws of the two masks. Assumes nothing.
 use Prim.Native.Nat.{◌/◌}
 use native.Mathlib.Omega.{arith}
+use mathlib.Core.Path.{◌≡◌}
 use lib.Bits.{and_le_r}
+use lib.ListN.{length}
+use borrow.Author.Rules.{rules}
 use Rattle.packed_bytes.proofs.Lanes.{pairs_say}
 use Rattle.packed_bytes.proofs.distance_in.Goals as goal
 
@@ -19,4 +22,5 @@ overflow_cast-result c = omega (arith, and_le_r c.four_in-x.result 4128831, and_
 
 pub returns : goal.returns
 returns c =
-    pairs_say c.args.s.now c.requires (λ i. omega (arith, c.type_inv.s i)) c.four_in-x.result c.four_in-x.ensures.0
+    let four : length c.args.s.now ≡ 4 = search rules in
+    pairs_say c.args.s.now four (λ i. search rules) c.four_in-x.result c.four_in-x.ensures.0

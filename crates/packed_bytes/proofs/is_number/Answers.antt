@@ -2,4 +2,4 @@
 use Rattle.packed_bytes.proofs.is_number.Goals as goal
 
 pub returns : goal.returns
-returns c = rw (c.are_groups.ensures, c.up_to_five.ensures)
+returns c = rw (c.are_groups.ensures, c.number_in.ensures)

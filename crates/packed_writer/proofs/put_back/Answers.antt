@@ -10,22 +10,14 @@ use Rattle.digits.specs.Digits.{digits}
 use Rattle.pupil.specs.Pupil.{pupil_packed}
 use Rattle.record.specs.Forms.{back_packed}
 use borrow.Author.Rules.{rules}
-use Rattle.packed_writer.proofs.put_back.Tie as tie
-use Rattle.packed_writer.proofs.put_back.Lts as lts
 use Rattle.packed_writer.proofs.put_back.Goals as goal
-
-abbrev After-struct_told : Type 0
-After-struct_told = lts.After-struct_told tie.the-claims tie.handed_pre tie.handed_post
-
--- the pupil's bits are read back as the pupil
-same : (c : After-struct_told) → to_z w32 (of_z w32 c.args.f.pupil) ≡ c.args.f.pupil
-same c = to_z-of_z {w = mir.Syntax.w32} (search rules)
 
 pub returns : goal.returns
 unfolding back_packed pupil_packed digits
 returns c =
+    let same : to_z w32 (of_z w32 c.args.f.pupil) ≡ c.args.f.pupil = to_z-of_z {w = w32} (search rules) in
     run
     (next _ c.put_groups.ensures refl
-    (next _ (c.put_pupil_packed.ensures ∙ ap (over _ 25) (ap pupil_packed.print (same c.before.before.before.before.before.before.before.before.before.before.before.before.before))) refl
+    (next _ (c.put_pupil_packed.ensures ∙ ap (over _ 25) (ap pupil_packed.print same)) refl
     (last _ c.put_groups-2.ensures refl)))
-    (omega (arith, c.requires))
+    (omega (arith, c.told-out))

@@ -15,4 +15,4 @@ returns c =
     (next _ c.put_groups.ensures refl
     (next _ c.put_groups-2.ensures refl
     (last _ c.put_stop_pair.ensures refl))))
-    (omega (arith, c.requires))
+    (omega (arith, c.told-out))

@@ -14,4 +14,4 @@ returns c =
     (next _ c.put_groups-2.ensures refl
     (next _ c.put_groups-3.ensures refl
     (last _ c.put_groups-4.ensures refl))))
-    (omega (arith, c.requires))
+    (omega (arith, c.told-out))

@@ -8,41 +8,29 @@ use borrow.Author.Tests.{leb-true, leb-false, le-leb, lt-leb, lt-ltb, le-ltb}
 use lib.Dec.{leb}
 use lib.ListN.{length, take, drop, length-drop}
 use lib.Seq.{take_all, length-take-le}
+use Rattle.std.specs.Prelude.{None, Option, Some}
 use Rattle.laws.proofs.Tests.{yes, no, cond_yes, cond_no, told}
 use Rattle.digits.specs.Digits.{value, are_digits, only, read_digits, read_field, read_decimal, widest}
-use Rattle.digits.specs.declared.Field.{Field}
-use Rattle.digits.specs.declared.Field.TheVariants.{Value, Wrong}
 use Rattle.digits.proofs.Laws.{digits_read}
 use Rattle.codec.specs.Codec.{read_tagged}
 use Rattle.codec.proofs.Fields.{tagged_low}
 use Rattle.pointed.specs.Pointed.{point, with_tenths, read_pointed}
-use Rattle.pointed.proofs.read_pointed.Tie as tie
-use Rattle.pointed.proofs.read_pointed.Lts as lts
 use Rattle.pointed.proofs.read_pointed.Goals as goal
 
-abbrev Past-After-known_told : Type 0
-Past-After-known_told = lts.Past-After-known_told tie.the-claims tie.handed_pre tie.handed_post
-
-abbrev Past-After-known_told2 : Type 0
-Past-After-known_told2 = lts.Past-After-known_told2 tie.the-claims tie.handed_pre tie.handed_post
-
-abbrev Start : Type 0
-Start = lts.Start tie.the-claims tie.handed_pre tie.handed_post
-
 -- a number that was read is at most what was asked for
-decimal_low : (top n : ℕ) (s : List ℕ) → read_decimal top s ≡ Value n → n ≤ top
+decimal_low : (top n : ℕ) (s : List ℕ) → read_decimal top s ≡ Some n → n ≤ top
 decimal_low top n s e = (digits_read 10 48 (omega arith) s n top e).0
 
 -- a whole part past top / 10 is wrong with any tenth
-past : (top v : ℕ) (t : Bool) (g : Field) → top / 10 < v → with_tenths top (only t v) g ≡ Wrong
+past : (top v : ℕ) (t : Bool) (g : Option ℕ) → top / 10 < v → with_tenths top (only t v) g ≡ None
 unfolding with_tenths
-past top v true (Value b) h = cond_no _ _ (lt-leb (v * 10 + b) top (omega arith))
-past top v true Wrong h = refl
+past top v true (Some b) h = cond_no _ _ (lt-leb (v * 10 + b) top (omega arith))
+past top v true None h = refl
 past top v false g h = refl
 
 -- so what is read up to top joins as what is read up to top / 10
-to_top : (top v : ℕ) (short all : Bool) (g : Field) →
-    with_tenths top (cond short (only (all && leb v top) v) Wrong) g ≡ with_tenths top (cond short (only (all && leb v (top / 10)) v) Wrong) g
+to_top : (top v : ℕ) (short all : Bool) (g : Option ℕ) →
+    with_tenths top (cond short (only (all && leb v top) v) None) g ≡ with_tenths top (cond short (only (all && leb v (top / 10)) v) None) g
 unfolding with_tenths
 to_top top v true true g =
     told (leb v (top / 10))
@@ -51,12 +39,12 @@ to_top top v true true g =
 to_top top v true false g = refl
 to_top top v false all g = refl
 
-whole_to_top : (top : ℕ) (s : List ℕ) (g : Field) → with_tenths top (read_decimal top s) g ≡ with_tenths top (read_decimal (top / 10) s) g
+whole_to_top : (top : ℕ) (s : List ℕ) (g : Option ℕ) → with_tenths top (read_decimal top s) g ≡ with_tenths top (read_decimal (top / 10) s) g
 unfolding read_field read_digits
 whole_to_top top s g = to_top top (value 10 48 s) (leb (length s) widest) (are_digits 10 48 s) g
 
 module _ (top : ℕ) (s : List ℕ) where
-  abbrev whole : Field
+  abbrev whole : Option ℕ
   whole = read_decimal top (take (length s - 2) s)
 
   -- the last two bytes
@@ -64,7 +52,7 @@ module _ (top : ℕ) (s : List ℕ) where
   rest = take (length s - (length s - 2)) (drop (length s - 2) s)
 
   -- what the two parts said, as one
-  joins : {f g : Field} → 2 ≤ length s → whole ≡ f → read_tagged point (read_decimal 9) rest ≡ g → with_tenths top f g ≡ read_pointed top s
+  joins : {f g : Option ℕ} → 2 ≤ length s → whole ≡ f → read_tagged point (read_decimal 9) rest ≡ g → with_tenths top f g ≡ read_pointed top s
   unfolding read_pointed
   joins h e f =
       let all : rest ≡ drop (length s - 2) s = take_all (length s - (length s - 2)) (drop (length s - 2) s) (simp length-drop (omega arith)) in
@@ -77,46 +65,32 @@ returns-then-s-lt2 c = yes _ (lt-ltb _ _ c.if-s-lt2.true) refl
 pub slice_bounds-read_decimal-end : goal.slice_bounds-read_decimal-end
 slice_bounds-read_decimal-end c = sym (length-take-le _ _ (omega arith))
 
-pub returns-in_default : goal.returns-in_default
+pub returns-in_err-whole : goal.returns-in_err-whole
 unfolding with_tenths
-returns-in_default c =
-    joins _ _ c.if-s-lt2.false (sym c.read_decimal.ensures ∙ c.in_default.is) refl
+returns-in_err-whole c =
+    c.from_residual.ensures ∙ joins _ _ c.if-s-lt2.false (sym c.read_decimal.ensures ∙ c.in_err-whole.was) refl
 
--- the parts, as they were found
-abbrev start : Past-After-known_told → Start
-start c = c.before.before.before.before
-
-abbrev first : Past-After-known_told2 → Past-After-known_told
-first c = c.before.before.before
-
-gave_whole : (c : Past-After-known_told) → whole (start c).args.top (start c).args.s.now ≡ Value c.in-Value.whole
-gave_whole c = sym c.read_decimal.ensures ∙ c.in-Value.is
-
-gave_tenth : (c : Past-After-known_told2) → read_tagged point (read_decimal 9) (rest (start (first c)).args.top (start (first c)).args.s.now) ≡ Value c.in-Value-read_tagged.tenth
-gave_tenth c = sym c.read_tagged.ensures ∙ c.in-Value-read_tagged.is
-
-low : (c : Past-After-known_told2) → ((first c).in-Value.whole ≤ (start (first c)).args.top) × (c.in-Value-read_tagged.tenth ≤ 9)
-low c = (decimal_low _ _ _ (gave_whole (first c)), tagged_low _ _ _ _ (gave_tenth c))
-
-gave_both : (c : Past-After-known_told2) →
-    with_tenths (start (first c)).args.top (Value (first c).in-Value.whole) (Value c.in-Value-read_tagged.tenth) ≡ read_pointed (start (first c)).args.top (start (first c)).args.s.now
-gave_both c = joins _ _ (first c).if-s-lt2.false (gave_whole (first c)) (gave_tenth c)
-
-pub returns-in_default-read_tagged : goal.returns-in_default-read_tagged
+pub returns-in_err-tenth : goal.returns-in_err-tenth
 unfolding with_tenths
-returns-in_default-read_tagged c =
-    joins _ _ c.if-s-lt2.false (gave_whole c.before.before.before.before) (sym c.read_tagged.ensures ∙ c.in_default-read_tagged.is)
+returns-in_err-tenth c =
+    c.from_residual-in_err-tenth.ensures
+    ∙ joins _ _ c.if-s-lt2.false (sym c.read_decimal.ensures ∙ c.in_ok-whole.was) (sym c.read_tagged.ensures ∙ c.in_err-tenth.was)
 
 pub overflow_mul-n : goal.overflow_mul-n
-overflow_mul-n c = omega (arith, low c.before)
+overflow_mul-n c = omega (arith, decimal_low _ _ _ (sym c.read_decimal.ensures ∙ c.in_ok-whole.was))
 
 pub overflow_add-n : goal.overflow_add-n
-overflow_add-n c = omega (arith, low c.before)
+overflow_add-n c =
+    omega (arith, decimal_low _ _ _ (sym c.read_decimal.ensures ∙ c.in_ok-whole.was), tagged_low _ _ _ _ (sym c.read_tagged.ensures ∙ c.in_ok-tenth.was))
 
 pub returns-then-most-n : goal.returns-then-most-n
 unfolding with_tenths
-returns-then-most-n c = sym (cond_no _ _ (lt-leb _ _ c.if-most-n.true)) ∙ gave_both c.before.before
+returns-then-most-n c =
+    sym (cond_no _ _ (lt-leb _ _ c.if-most-n.true))
+    ∙ joins _ _ c.if-s-lt2.false (sym c.read_decimal.ensures ∙ c.in_ok-whole.was) (sym c.read_tagged.ensures ∙ c.in_ok-tenth.was)
 
 pub returns : goal.returns
 unfolding with_tenths
-returns c = sym (cond_yes _ _ (le-leb _ _ c.if-most-n.false)) ∙ gave_both c.before.before
+returns c =
+    sym (cond_yes _ _ (le-leb _ _ c.if-most-n.false))
+    ∙ joins _ _ c.if-s-lt2.false (sym c.read_decimal.ensures ∙ c.in_ok-whole.was) (sym c.read_tagged.ensures ∙ c.in_ok-tenth.was)

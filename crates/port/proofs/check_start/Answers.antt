@@ -2,19 +2,19 @@
 use Prim.Native.Nat.{ℕ}
 use mathlib.Core.Path.{sym, ap, ◌∙◌}
 use borrow.Author.Tests.{eq-eqb, ne_eqb}
+use Rattle.std.specs.Prelude.{Err}
 use Rattle.laws.proofs.Tests.{yes, no}
 use Rattle.refusal.specs.declared.Refusal.TheVariants as refusal
-use Rattle.refusal.specs.declared.Verdict.TheVariants.{Refused}
+use Rattle.codec.proofs.Lowest.{some_named, none_named}
 use Rattle.port.specs.Port.{start_verdict}
 use Rattle.port.proofs.check_start.Goals as goal
 
-pub returns-then-lowest-ne0 : goal.returns-then-lowest-ne0
+pub returns-in-Some : goal.returns-in-Some
 unfolding start_verdict
-returns-then-lowest-ne0 c =
-    let l = c.lowest_setting-lowest.ensures in
-    no _ (ne_eqb _ 0 (λ z. c.if-lowest-ne0.true (l ∙ z))) (ap (λ (i : ℕ). Refused (refusal.Setting i)) l)
+returns-in-Some c =
+    let n = some_named _ (sym c.lowest_setting.ensures ∙ c.in-Some.is) in
+    no _ (ne_eqb _ 0 (λ z. n.1 (n.0 ∙ z))) (ap (λ (i : ℕ). Err (refusal.Setting i)) n.0)
 
 pub returns : goal.returns
 unfolding start_verdict
-returns c =
-    yes _ (eq-eqb _ 0 (sym c.lowest_setting-lowest.ensures ∙ c.if-lowest-ne0.false)) c.check_measurement.ensures
+returns c = yes _ (eq-eqb _ 0 (none_named _ (sym c.lowest_setting.ensures ∙ c.in_default.is))) c.check_measurement.ensures

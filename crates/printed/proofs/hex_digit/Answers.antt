@@ -1,12 +1,13 @@
--- `printed::hex_digit` meets its contract: the branch is the test of `hex_digit`. Assumes nothing.
+-- `printed::hex_digit` meets its contract: the arm is the test of `hex_digit`. Assumes nothing.
+use native.Mathlib.Omega.{arith}
 use borrow.Author.Tests.{lt-ltb, le-ltb}
 use Rattle.printed.specs.Printed.{hex_digit}
 use Rattle.printed.proofs.hex_digit.Goals as goal
 
-pub returns-then-n-lt10 : goal.returns-then-n-lt10
+pub returns-in-0-to-9 : goal.returns-in-0-to-9
 unfolding hex_digit
-returns-then-n-lt10 c = rw (lt-ltb _ _ c.if-n-lt10.true)
+returns-in-0-to-9 c = rw (lt-ltb c.args.n 10 (omega arith))
 
-pub returns : goal.returns
+pub returns-in_default : goal.returns-in_default
 unfolding hex_digit
-returns c = rw (le-ltb _ _ c.if-n-lt10.false)
+returns-in_default c = rw (le-ltb c.args.n 10 (omega arith))

@@ -1,34 +1,23 @@
 -- `printed::put_labelled` meets its contract: three writes one behind the other are one. Assumes nothing.
 use Prim.Native.Nat.{ℕ, ◌+◌, ◌≤◌}
-use mathlib.Core.Bool.{Bool, true, false, cond}
 use mathlib.Core.List.{List, [], ◌∷◌, ◌++◌, append_assoc}
 use mathlib.Core.Path.{◌≡◌, sym, ap, ◌∙◌}
 use native.Mathlib.Omega.{arith}
-use lib.Dec.{ltb}
 use lib.ListN.{length, length-append}
 use Rattle.laws.specs.Over.{over}
 use Rattle.laws.proofs.OverLaws.{onto}
 use Rattle.digits.specs.Digits.{decimal}
-use Rattle.digits.proofs.Laws.{length_digits}
 use Rattle.printed.specs.Printed.{LF, width_of, numeral, labelled}
+use Rattle.printed.proofs.Characters.{length_numeral, six_at_most}
 use Rattle.printed.proofs.Laws.{prints_short, prints_whole}
 use Rattle.printed.proofs.put_labelled.Goals as goal
 
--- a choice between widths of at most six
-few : (b : Bool) {w v : ℕ} → w ≤ 6 → v ≤ 6 → cond b w v ≤ 6
-few true p q = p
-few false p q = q
-
-narrow : (n : ℕ) → width_of n ≤ 6
-unfolding width_of
-narrow n =
-    few (ltb n 10) (omega arith)
-    (few (ltb n 100) (omega arith)
-    (few (ltb n 1000) (omega arith) (few (ltb n 10000) (omega arith) (few (ltb n 100000) (omega arith) (omega arith)))))
-
 module _ (label : List ℕ) (n : ℕ) {w : ℕ} (e : w ≡ width_of n) where
   digits_long : length (numeral n) ≡ w
-  digits_long = length_digits 10 48 (omega arith) (width_of n) n ∙ sym e
+  digits_long = length_numeral n ∙ sym e
+
+  narrow : w ≤ 6
+  narrow = omega (arith, digits_long, six_at_most n)
 
   long : length (labelled label n) ≡ length label + w + 1
   unfolding labelled
@@ -48,10 +37,10 @@ module _ (label : List ℕ) (n : ℕ) {w : ℕ} (e : w ≡ width_of n) where
       ∙ ap (over d 0) (append_assoc label (numeral n) (LF ∷ []))
 
 pub overflow_add-need : goal.overflow_add-need
-overflow_add-need c = record { fits = omega (arith, narrow c.args.n, c.width_of-width.ensures, c.requires) }
+overflow_add-need c = record { fits = omega (arith, narrow c.args.label.now c.args.n c.width_of-width.ensures, c.requires) }
 
 pub overflow_add-need-2 : goal.overflow_add-need-2
-overflow_add-need-2 c = record { fits = omega (arith, narrow c.args.n, c.width_of-width.ensures, c.requires) }
+overflow_add-need-2 c = record { fits = omega (arith, narrow c.args.label.now c.args.n c.width_of-width.ensures, c.requires) }
 
 pub returns-then-out-need : goal.returns-then-out-need
 returns-then-out-need c =

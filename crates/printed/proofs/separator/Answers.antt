@@ -7,6 +7,6 @@ pub returns-then-left-eq0 : goal.returns-then-left-eq0
 unfolding separator
 returns-then-left-eq0 c = rw (eq-eqb _ _ c.if-left-eq0.true)
 
-pub returns : goal.returns
+pub returns-else-left-eq0 : goal.returns-else-left-eq0
 unfolding separator
-returns c = rw (ne_eqb _ _ c.if-left-eq0.false)
+returns-else-left-eq0 c = rw (ne_eqb _ _ c.if-left-eq0.false)

@@ -9,12 +9,12 @@ pub returns-then-s-ne2 : goal.returns-then-s-ne2
 unfolding read_pupil_packed
 returns-then-s-ne2 c = no _ (ne_eqb _ _ c.if-s-ne2.true) refl
 
-pub returns-in_default : goal.returns-in_default
+pub returns-in_err-k : goal.returns-in_err-k
 unfolding read_pupil_packed
-returns-in_default c =
-    yes _ (eq-eqb _ _ c.if-s-ne2.false) (at code_in (sym c.read_groups.ensures ∙ c.in_default.is) refl)
+returns-in_err-k c =
+    c.from_residual.ensures ∙ yes _ (eq-eqb _ _ c.if-s-ne2.false) (at code_in (sym c.read_groups.ensures ∙ c.in_err-k.was) refl)
 
 pub returns : goal.returns
 unfolding read_pupil_packed
 returns c =
-    yes _ (eq-eqb _ _ c.if-s-ne2.false) (at code_in (sym c.read_groups.ensures ∙ c.in-Value.is) c.signed_field.ensures)
+    yes _ (eq-eqb _ _ c.if-s-ne2.false) (at code_in (sym c.read_groups.ensures ∙ c.in_ok-k.was) c.signed_field.ensures)

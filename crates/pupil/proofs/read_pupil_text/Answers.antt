@@ -14,14 +14,14 @@ unfolding read_pupil_text
 returns-then-not-is_marked c =
     yes _ (eq-eqb _ _ c.if-s-ne5.false) (no _ (sym c.is_marked.ensures ∙ c.if-not-is_marked.true) refl)
 
-pub returns-in_default : goal.returns-in_default
+pub returns-in_err-n : goal.returns-in_err-n
 unfolding read_pupil_text
-returns-in_default c =
-    yes _ (eq-eqb _ _ c.if-s-ne5.false)
-    (yes _ (sym c.is_marked.ensures ∙ c.if-not-is_marked.false) (at (signed_in _) (sym c.read_decimal.ensures ∙ c.in_default.is) refl))
+returns-in_err-n c =
+    c.from_residual.ensures ∙ yes _ (eq-eqb _ _ c.if-s-ne5.false)
+    (yes _ (sym c.is_marked.ensures ∙ c.if-not-is_marked.false) (at (signed_in _) (sym c.read_decimal.ensures ∙ c.in_err-n.was) refl))
 
 pub returns : goal.returns
 unfolding read_pupil_text
 returns c =
     yes _ (eq-eqb _ _ c.if-s-ne5.false)
-    (yes _ (sym c.is_marked.ensures ∙ c.if-not-is_marked.false) (at (signed_in _) (sym c.read_decimal.ensures ∙ c.in-Value.is) c.signed_field.ensures))
+    (yes _ (sym c.is_marked.ensures ∙ c.if-not-is_marked.false) (at (signed_in _) (sym c.read_decimal.ensures ∙ c.in_ok-n.was) c.signed_field.ensures))

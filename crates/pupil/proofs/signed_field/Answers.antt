@@ -2,7 +2,7 @@
 use mathlib.Core.Path.{◌≡◌, ap}
 use mir.Facts.{to_z-of_z}
 use borrow.Author.Tests.{le-leb, lt-leb}
-use Rattle.pupil.specs.declared.Signed.TheVariants.{Number}
+use Rattle.std.specs.Prelude.{Some}
 use Rattle.pupil.specs.Pupil.{signed_field}
 use borrow.Author.Rules.{rules}
 use Rattle.pupil.proofs.signed_field.Goals as goal
@@ -15,4 +15,4 @@ pub returns : goal.returns
 unfolding signed_field
 returns c =
     let same : mir.Val.to_z mir.Syntax.w32 (mir.Val.of_z mir.Syntax.w32 c.signed_of.result) ≡ c.signed_of.result = to_z-of_z {w = mir.Syntax.w32} (search rules) in
-    rw (le-leb _ _ c.if-n-gt999.false, same) (ap Number c.signed_of.ensures)
+    rw (le-leb _ _ c.if-n-gt999.false, same) (ap Some c.signed_of.ensures)

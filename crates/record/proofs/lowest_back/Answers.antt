@@ -32,19 +32,19 @@ pub returns-then-most-size_of : goal.returns-then-most-size_of
 unfolding back_lowest
 returns-then-most-size_of c =
     let most = c.args.most in
-    right_here 9 (le-leb _ _ c.if-f-gt4095.false)
+    right_here 9 _ (le-leb _ _ c.if-f-gt4095.false)
     (wrong_here 9 _ (ap (λ (n : ℕ). leb n most) (sym (same c.before)) ∙ lt-leb _ _ c.if-most-size_of.true))
 
 pub returns-then-f-gt1000 : goal.returns-then-f-gt1000
 unfolding back_lowest
 returns-then-f-gt1000 c =
     let most = c.args.most in
-    right_here 9 (le-leb _ _ c.if-f-gt4095.false)
-    (right_here 10 (ap (λ (n : ℕ). leb n most) (sym (same c.before.before.before)) ∙ le-leb _ _ c.if-most-size_of.false) (wrong_last 11 (lt-leb _ _ c.if-f-gt1000.true)))
+    right_here 9 _ (le-leb _ _ c.if-f-gt4095.false)
+    (right_here 10 _ (ap (λ (n : ℕ). leb n most) (sym (same c.before.before.before)) ∙ le-leb _ _ c.if-most-size_of.false) (wrong_last 10 (lt-leb _ _ c.if-f-gt1000.true)))
 
 pub returns : goal.returns
 unfolding back_lowest
 returns c =
     let most = c.args.most in
-    right_here 9 (le-leb _ _ c.if-f-gt4095.false)
-    (right_here 10 (ap (λ (n : ℕ). leb n most) (sym (same c.before.before.before)) ∙ le-leb _ _ c.if-most-size_of.false) (right_last 11 (le-leb _ _ c.if-f-gt1000.false)))
+    right_here 9 _ (le-leb _ _ c.if-f-gt4095.false)
+    (right_here 10 _ (ap (λ (n : ℕ). leb n most) (sym (same c.before.before.before)) ∙ le-leb _ _ c.if-most-size_of.false) (right_last 11 (le-leb _ _ c.if-f-gt1000.false)))

@@ -1,4 +1,5 @@
 -- `reply::record_in` meets its contract: an arm for each form. Assumes nothing.
+use mathlib.Core.Logic.{⊎_elim}
 use mathlib.Core.Path.{ap, ◌∙◌}
 use Rattle.laws.proofs.Tests.{at}
 use Rattle.frame.specs.Frame.{framed}
@@ -24,13 +25,8 @@ pub returns-in-Off : goal.returns-in-Off
 unfolding record_is
 returns-in-Off c =
     let s = c.args.source in
-    at (built s) c.in-Off.is (c.text_message.ensures ∙ ap (text s) c.record_now-record.ensures)
-
-pub returns-in-Text : goal.returns-in-Text
-unfolding record_is
-returns-in-Text c =
-    let s = c.args.source in
-    at (built s) c.in-Text.is (c.text_message-in-Text.ensures ∙ ap (text s) c.record_now-record.ensures)
+    let h = c.text_message.ensures ∙ ap (text s) c.record_now-record.ensures in
+    ⊎_elim (λ e. at (built s) e h) (λ e. at (built s) e h) c.in-Off.is
 
 pub returns-in-Packed : goal.returns-in-Packed
 unfolding record_is

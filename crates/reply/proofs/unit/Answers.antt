@@ -23,4 +23,4 @@ relettered_with u byte s l =
 pub returns : goal.returns
 returns c =
     let a = c.args in
-    c.answer.ensures ∙ ap (relettered_with a.unit a.byte a.source) c.relettered.ensures
+    c.answer.ensures ∙ ap (relettered_with a.unit a.byte a.source) c.relettered-after.ensures

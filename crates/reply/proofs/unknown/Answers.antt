@@ -12,10 +12,10 @@ use Rattle.reply.proofs.unknown.Goals as goal
 abbrev answers : Source → Bool → Acted
 answers s inhibit = acted_of (cond inhibit (silent s) (replies s (63 ∷ [])))
 
-pub returns-then-modes : goal.returns-then-modes
+pub returns-then-source : goal.returns-then-source
 unfolding runs
-returns-then-modes c = at (answers c.args.source) c.if-modes.true c.silent.ensures
+returns-then-source c = at (answers c.args.source) c.if-source.true c.silent.ensures
 
 pub returns : goal.returns
 unfolding runs
-returns c = at (answers c.args.source) c.if-modes.false c.answer.ensures
+returns c = at (answers c.args.source) c.if-source.false c.answer.ensures

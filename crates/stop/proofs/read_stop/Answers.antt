@@ -4,20 +4,20 @@ use mathlib.Core.Bool.{true, false}
 use mathlib.Core.Path.{◌≡◌, sym, ◌∙◌}
 use native.Mathlib.Omega.{arith}
 use borrow.Author.Tests.{eq-eqb, ne_eqb}
-use Rattle.digits.specs.declared.Field.TheVariants.{Value, Wrong}
+use Rattle.std.specs.Prelude.{None, Some}
 use Rattle.stop.specs.Stop.{stop_ok, stop_in, read_stop}
 use Rattle.stop.proofs.read_stop.Goals as goal
 
 module _ (x y n : ℕ) where
-  top_bit : (x / 128 ≡ 1 → ⊥) → Wrong ≡ read_stop x y
+  top_bit : (x / 128 ≡ 1 → ⊥) → None ≡ read_stop x y
   unfolding read_stop
   top_bit h = rw (ne_eqb (x / 128) 1 h)
 
-  out : x / 128 ≡ 1 → stop_in x y ≡ n → stop_ok n ≡ false → Wrong ≡ read_stop x y
+  out : x / 128 ≡ 1 → stop_in x y ≡ n → stop_ok n ≡ false → None ≡ read_stop x y
   unfolding read_stop
   out h e k = rw (eq-eqb (x / 128) 1 h, e, k)
 
-  found : x / 128 ≡ 1 → stop_in x y ≡ n → stop_ok n ≡ true → Value n ≡ read_stop x y
+  found : x / 128 ≡ 1 → stop_in x y ≡ n → stop_ok n ≡ true → Some n ≡ read_stop x y
   unfolding read_stop
   found h e k = rw (eq-eqb (x / 128) 1 h, e, k)
 

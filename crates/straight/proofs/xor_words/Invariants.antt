@@ -1,12 +1,7 @@
-use Prim.Native.Nat.{◌-◌, ◌*◌, ◌≤◌}
-use mathlib.Core.Path.{◌≡◌}
-use lib.ListN.{drop}
+use Rattle.std.proofs.Common.{◌≡◌, ◌*◌, drop}
 use Rattle.frame.specs.Frame.{xor_from}
 use Rattle.straight.specs.Words.{together}
 use Rattle.straight.proofs.xor_words.Given as goal
 
 abbrev pub invariant-loop-i : goal.invariant-loop-i
-invariant-loop-i l = (l.i ≤ l.n) × (xor_from 255 l.s ≡ xor_from (together 8 l.x) (drop (8 * l.i) l.s))
-
-abbrev pub decreases-loop-i : goal.decreases-loop-i
-decreases-loop-i l = l.n - l.i
+invariant-loop-i l = xor_from 255 l.s ≡ xor_from (together 8 l.x) (drop (8 * l.i) l.s)

@@ -17,4 +17,4 @@ returns c =
     (next _ c.put_byte.ensures refl
     (next _ c.put_stop_text.ensures (stop_long _)
     (last _ c.put_tagged-3.ensures refl)))))
-    (omega (arith, c.requires))
+    (omega (arith, c.told-out))

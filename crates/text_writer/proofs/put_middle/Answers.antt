@@ -14,4 +14,4 @@ returns c =
     (next _ c.put_tagged-2.ensures refl
     (next _ c.put_tagged-3.ensures refl
     (last _ c.put_tagged-4.ensures refl))))
-    (omega (arith, c.requires))
+    (omega (arith, c.told-out))

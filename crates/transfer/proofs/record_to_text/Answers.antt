@@ -3,9 +3,10 @@ use Prim.Native.Nat.{ℕ}
 use mathlib.Core.List.{List}
 use mathlib.Core.Path.{◌≡◌, sym, ap, ◌∙◌}
 use lib.ListN.{replicate}
+use Rattle.std.specs.Prelude.{Ok}
 use Rattle.laws.specs.Over.{over}
-use Rattle.refusal.specs.Answer.{accepted}
 use Rattle.refusal.specs.declared.Refusal.TheVariants.{Field}
+use Rattle.codec.proofs.Lowest.{some_named, none_named}
 use Rattle.codec.proofs.Texts.{over_whole_lem}
 use Rattle.frame.specs.Message.{message_of}
 use Rattle.frame.proofs.Answers.{writes_wrong}
@@ -19,8 +20,10 @@ use Rattle.packed_bytes.proofs.Right.{written_says}
 use Rattle.transfer.proofs.Turned.{unwritten}
 use Rattle.transfer.proofs.record_to_text.Goals as goal
 
-pub returns-then-lowest-ne0 : goal.returns-then-lowest-ne0
-returns-then-lowest-ne0 c = writes_wrong text_form Field _ _ _ _ (c.lowest_field-lowest.ensures ∙ sym (text_lowest _)) c.if-lowest-ne0.true
+pub returns-in-Some : goal.returns-in-Some
+returns-in-Some c =
+    let d = some_named _ (sym c.in-Some.ensures) in
+    writes_wrong text_form Field _ _ _ _ (d.0 ∙ sym (text_lowest _)) d.1
 
 -- packed bytes in a buffer as long as they are say the record
 packed_is : (r : Record) (packed : List ℕ) → record_lowest r ≡ 0 → packed ≡ over (replicate packed_length 0) 0 (packed_form.print r) → packed_record packed ≡ r
@@ -31,6 +34,6 @@ packed_is r packed h e =
 pub returns : goal.returns
 returns c =
     let checksum = c.args.checksum in
-    let may = sym c.lowest_field-lowest.ensures ∙ c.if-lowest-ne0.false in
+    let may = none_named _ (sym c.in_default.ensures) in
     let says = packed_is _ _ may c.put_packed_record.ensures in
-    unwritten _ _ _ may (moves_by _ _ (ap (λ (x : Record). accepted (message_of text_form checksum x)) (sym says)) c.put_message.ensures)
+    unwritten _ _ _ may (moves_by _ _ (ap (λ (x : Record). Ok (message_of text_form checksum x)) (sym says)) c.put_message.ensures)

@@ -2,10 +2,11 @@
 use Prim.Native.Nat.{ℕ}
 use mathlib.Core.Path.{refl, sym, ap, ◌∙◌}
 use borrow.Author.Tests.{eq-eqb, ne_eqb}
-use lib.Dec.{eqb}
+use Rattle.std.specs.Prelude.{Err}
 use Rattle.laws.proofs.Tests.{yes, no}
+use Rattle.refusal.specs.Answer.{Verdict}
 use Rattle.refusal.specs.declared.Refusal.TheVariants.{Field}
-use Rattle.refusal.specs.declared.Verdict.TheVariants.{Refused}
+use Rattle.codec.proofs.Lowest.{some_named, none_named}
 use Rattle.units.specs.Measurement.{measurement_verdict}
 use Rattle.units.proofs.check_measurement.Goals as goal
 
@@ -13,14 +14,15 @@ pub returns-then-not-is_unit : goal.returns-then-not-is_unit
 unfolding measurement_verdict
 returns-then-not-is_unit c = no _ (sym c.is_unit.ensures ∙ c.if-not-is_unit.true) refl
 
-pub returns-then-lowest-ne0 : goal.returns-then-lowest-ne0
+pub returns-in-Some : goal.returns-in-Some
 unfolding measurement_verdict
-returns-then-lowest-ne0 c =
+returns-in-Some c =
+    let found = some_named _ (sym c.lowest_of.ensures ∙ c.in-Some.is) in
     yes _ (sym c.is_unit.ensures ∙ c.if-not-is_unit.false)
-    (no _ (ap (λ (n : ℕ). eqb n 0) (sym c.lowest_of-lowest.ensures) ∙ ne_eqb _ _ c.if-lowest-ne0.true) (ap (λ (n : ℕ). Refused (Field n)) c.lowest_of-lowest.ensures))
+    (no _ (ne_eqb _ 0 (λ e. found.1 (found.0 ∙ e))) (ap {B = Verdict} (λ (n : ℕ). Err (Field n)) found.0))
 
 pub returns : goal.returns
 unfolding measurement_verdict
 returns c =
     yes _ (sym c.is_unit.ensures ∙ c.if-not-is_unit.false)
-    (yes _ (ap (λ (n : ℕ). eqb n 0) (sym c.lowest_of-lowest.ensures) ∙ eq-eqb _ _ c.if-lowest-ne0.false) refl)
+    (yes _ (eq-eqb _ 0 (none_named _ (sym c.lowest_of.ensures ∙ c.in_default.is))) refl)

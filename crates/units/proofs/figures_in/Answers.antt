@@ -5,23 +5,15 @@ use mir.Val.{to_z, of_z}
 use mir.Facts.{to_z-of_z}
 use borrow.Author.Rules.{rules}
 use Rattle.units.specs.Measurement.{shown_pupil, figures_in}
-use Rattle.units.proofs.figures_in.Tie as tie
-use Rattle.units.proofs.figures_in.Lts as lts
 use Rattle.units.proofs.figures_in.Goals as goal
-
-abbrev Start : Type 0
-Start = lts.Start tie.the-claims tie.handed_pre tie.handed_post
-
--- the pupil is the figures' own
-own : (b : Start) → to_z w32 (of_z w32 b.args.f.pupil) ≡ b.args.f.pupil
-own b = to_z-of_z {w = mir.Syntax.w32} (search rules)
 
 pub returns : goal.returns
 unfolding figures_in
 returns c =
     let f = c.args.f in
-    let z : to_z w32 (of_z w32 c.shown_pupil.result) ≡ c.shown_pupil.result = to_z-of_z {w = mir.Syntax.w32} (search rules) in
-    let pupil = z ∙ c.shown_pupil.ensures ∙ ap (shown_pupil c.args.unit c.args.display) (own c.before.before.before.before.before.before) in
+    let z : to_z w32 (of_z w32 c.shown_pupil.result) ≡ c.shown_pupil.result = to_z-of_z {w = w32} (search rules) in
+    let own : to_z w32 (of_z w32 f.pupil) ≡ f.pupil = to_z-of_z {w = w32} (search rules) in
+    let pupil = z ∙ c.shown_pupil.ensures ∙ ap (shown_pupil c.args.unit c.args.display) own in
     λ i. record {
       focus = c.shown_distance.ensures i;
       aperture = f.aperture;

@@ -1,35 +1,18 @@
 -- `units::in_range` meets its contract: each `return` is a case of `inRange`. Assumes nothing.
 use mathlib.Core.Bool.{not}
-use mathlib.Core.Path.{◌≡◌, sym, ap, ◌∙◌}
+use mathlib.Core.Path.{sym, ap, ◌∙◌}
 use lib.Dec.{leb}
-use mir.Syntax.{w32}
-use mir.Val.{to_z, of_z}
 use mir.Facts.{to_z-of_z}
 use borrow.Author.Tests.{eq-eqb, ne_eqb}
 use Rattle.laws.proofs.Tests.{yes, no, and_fails, and_goes}
 use Rattle.sign.specs.Sign.{size, below0}
 use Rattle.units.specs.Units.{in_range}
-use Rattle.units.proofs.in_range.Tie as tie
-use Rattle.units.proofs.in_range.Lts as lts
 use Rattle.units.proofs.in_range.Goals as goal
-
-abbrev After-is_below : Type 0
-After-is_below = lts.After-is_below tie.the-claims tie.handed_pre tie.handed_post
-
-abbrev Start : Type 0
-Start = lts.Start tie.the-claims tie.handed_pre tie.handed_post
-
--- the number that the calls take is the caller's own
-own : (b : Start) → to_z w32 (of_z w32 b.args.number) ≡ b.args.number
-own b = to_z-of_z b.ranges.number
-
-below : (c : After-is_below) → c.is_below.result ≡ below0 c.args.number
-below c = c.is_below.ensures ∙ ap below0 (own c.before.before.before.before)
 
 pub returns-then-field-eq10 : goal.returns-then-field-eq10
 unfolding in_range
 returns-then-field-eq10 c =
-    let size_is = c.size_of.ensures ∙ ap size (own c.before.before.before) in
+    let size_is = c.size_of.ensures ∙ ap size (to_z-of_z c.ranges.number) in
     yes _ (eq-eqb _ _ c.if-field-eq10.true) (λ i. leb (size_is i) (c.most_in.ensures i))
 
 pub returns-then-not-is_distance : goal.returns-then-not-is_distance
@@ -41,12 +24,12 @@ pub returns-then-is_below : goal.returns-then-is_below
 unfolding in_range
 returns-then-is_below c =
     no _ (ne_eqb _ _ c.if-field-eq10.false)
-    (and_goes (sym c.is_distance.ensures ∙ c.if-not-is_distance.false) (and_fails _ (ap not (sym (below c.before) ∙ c.if-is_below.true))))
+    (and_goes (sym c.is_distance.ensures ∙ c.if-not-is_distance.false) (and_fails _ (ap not (sym (c.is_below.ensures ∙ ap below0 (to_z-of_z c.ranges.number)) ∙ c.if-is_below.true))))
 
 pub returns : goal.returns
 unfolding in_range
 returns c =
-    let size_is = c.size_of-2.ensures ∙ ap size (own c.before.before.before.before.before.before.before) in
+    let size_is = c.size_of-2.ensures ∙ ap size (to_z-of_z c.ranges.number) in
     no _ (ne_eqb _ _ c.if-field-eq10.false)
     (and_goes (sym c.is_distance.ensures ∙ c.if-not-is_distance.false)
-    (and_goes (ap not (sym (below c.before.before.before) ∙ c.if-is_below.false)) (λ i. leb (size_is i) (c.top_in.ensures i))))
+    (and_goes (ap not (sym (c.is_below.ensures ∙ ap below0 (to_z-of_z c.ranges.number)) ∙ c.if-is_below.false)) (λ i. leb (size_is i) (c.top_in.ensures i))))

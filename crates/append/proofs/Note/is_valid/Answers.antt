@@ -1,44 +1,21 @@
--- `append::Note::is_valid` meets its contract: each return has its law. Assumes nothing.
-use mathlib.Core.Path.{◌≡◌, sym, ◌∙◌}
-use native.Mathlib.Omega.{arith}
-use borrow.Author.Rules.{rules}
-use borrow.Author.Tests.{not-true, not-false}
-use lib.ListN.{length}
-use lib.Seq.{length-take-le}
-use Rattle.note.specs.Note.{longest_note}
+-- `append::Note::is_valid` meets its contract: each test is one of `valid_note`. Assumes nothing.
+use mathlib.Core.Logic.{inl, inr}
+use mathlib.Core.Path.{sym, ◌∙◌}
+use borrow.Author.Tests.{eq-eqb}
 use Rattle.append.proofs.Laws.{valid_none, valid_by, invalid_closed, invalid_past}
-use Rattle.append.proofs.Note.is_valid.Tie as tie
-use Rattle.append.proofs.Note.is_valid.Lts as lts
 use Rattle.append.proofs.Note.is_valid.Goals as goal
 
-abbrev Start : Type 0
-Start = lts.Start tie.the-claims tie.handed_pre tie.handed_post
+pub returns-then-self-eq0 : goal.returns-then-self-eq0
+returns-then-self-eq0 c = eq-eqb _ _ c.if-self-eq0.true ∙ sym (valid_none c.args.self c.if-self-eq0.true)
 
-long : (b : Start) → length b.args.self.bytes ≡ longest_note
-long b = search rules
+pub returns-then-self-le-NOTE_LENGTH : goal.returns-then-self-le-NOTE_LENGTH
+returns-then-self-le-NOTE_LENGTH c =
+    let h = c.if-self-le-NOTE_LENGTH.true in
+    c.is_note.ensures ∙ sym (valid_by c.args.self c.if-self-eq0.false h.0 h.1)
 
-pub returns-then-len-eq0 : goal.returns-then-len-eq0
-returns-then-len-eq0 c = sym (valid_none c.args.self c.if-len-eq0.true)
-
-pub returns-then-not-self : goal.returns-then-not-self
-returns-then-not-self c =
+pub returns-else-self-le-NOTE_LENGTH : goal.returns-else-self-le-NOTE_LENGTH
+returns-else-self-le-NOTE_LENGTH c =
     let n = c.args.self in
-    sym (invalid_closed n c.if-len-eq0.false (not-true n.opened c.if-not-self.true))
-
-pub returns-then-len-gt-NOTE_LENGTH : goal.returns-then-len-gt-NOTE_LENGTH
-returns-then-len-gt-NOTE_LENGTH c =
-    let n = c.args.self in
-    sym (invalid_past n c.if-len-eq0.false (not-false n.opened c.if-not-self.false) c.if-len-gt-NOTE_LENGTH.true)
-
-pub slice_bounds-bytes-end : goal.slice_bounds-bytes-end
-slice_bounds-bytes-end c = omega (arith, long c.before.before.before.before.before)
-
-pub slice_bounds-is_note-end : goal.slice_bounds-is_note-end
-slice_bounds-is_note-end c =
-    let n = long c.before.before.before.before.before.before in
-    sym (length-take-le c.args.self.len c.args.self.bytes (omega arith))
-
-pub returns : goal.returns
-returns c =
-    let n = c.args.self in
-    c.is_note.ensures ∙ sym (valid_by n c.if-len-eq0.false (not-false n.opened c.if-not-self.false) c.if-len-gt-NOTE_LENGTH.false)
+    let z = c.if-self-eq0.false in
+    elim c.if-self-le-NOTE_LENGTH.either
+    [ inl p ↦ cc (invalid_past n z p.0 p.1) | inr p ↦ cc (invalid_closed n z p) ]

@@ -12,14 +12,14 @@ use Rattle.connectors.proofs.Connectors.slot.Goals as goal
 abbrev of : Slotted → Connectors → SlottedAt
 of x b = record { sent = x.sent; connectors = b }
 
-pub returns-in-At : goal.returns-in-At
+pub returns : goal.returns
 unfolding slot_in
-returns-in-At c =
+returns c =
     let b = c.args.self in
-    at (slot_in b) (sym c.side_of-named.ensures ∙ c.in-At.is)
-    (named_port of (λ (x : Slotted). x.port) slot_of b c.in-At.side c.with_port.ensures c.slot-slotted.ensures c.port_at-port.ensures)
+    at (slot_in b) (sym c.side_of.ensures ∙ c.in-Some.is)
+    (named_port of (λ (x : Slotted). x.port) slot_of b c.in-Some.side c.with_port.ensures c.slot-slotted.ensures c.port_at.ensures)
 
-pub returns-in-Nowhere : goal.returns-in-Nowhere
+pub returns-in_default : goal.returns-in_default
 unfolding slot_in
-returns-in-Nowhere c =
-    at (slot_in c.args.self) (sym c.side_of-named.ensures ∙ c.in-Nowhere.is) refl
+returns-in_default c =
+    at (slot_in c.args.self) (sym c.side_of.ensures ∙ c.in_default.is) refl

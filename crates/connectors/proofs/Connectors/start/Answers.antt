@@ -1,7 +1,8 @@
 -- `Connectors::start` meets its contract: what two starts come to, by their verdicts. Assumes nothing.
 use mathlib.Core.Path.{◌≡◌, refl, ap, ◌∙◌}
-use Rattle.refusal.specs.declared.Verdict.{Verdict}
-use Rattle.refusal.specs.declared.Verdict.TheVariants.{Done, Refused}
+use Rattle.std.specs.Prelude.{Ok, Err}
+use Rattle.std.specs.Result.{result_and}
+use Rattle.refusal.specs.Answer.{Verdict}
 use Rattle.fixed.specs.declared.Settings.{Settings}
 use Rattle.units.specs.declared.Measurement.{Measurement}
 use Rattle.port.specs.declared.Port.{Port}
@@ -14,15 +15,19 @@ use Rattle.connectors.specs.declared.StartedBoth.{StartedBoth}
 use Rattle.connectors.specs.Connectors.{own_of, with_port, first_refused, both_verdict, started_by, start_both}
 use Rattle.connectors.proofs.Connectors.start.Goals as goal
 
+first_is : (v w : Verdict) → result_and v w ≡ first_refused v w
+first_is (Ok tt) w = refl
+first_is (Err r) w = refl
+
 module _ (old : Connectors) (lines : Lines) where
   -- what two starts hand back, put together
   by_verdicts : (v w : Verdict) (one two p q : Port) →
       started_by (first_refused (handed v one p).verdict (handed w two q).verdict) (with_port (with_port old Camera (handed v one p).port) External (handed w two q).port) old lines
       ≡ started_by (first_refused v w) (record { settings = two.source.settings; camera = own_of one; external = own_of two }) old lines
   unfolding handed
-  by_verdicts Done Done one two p q = refl
-  by_verdicts Done (Refused r) one two p q = refl
-  by_verdicts (Refused r) w one two p q = refl
+  by_verdicts (Ok a) (Ok b) one two p q = refl
+  by_verdicts (Ok a) (Err r) one two p q = refl
+  by_verdicts (Err r) w one two p q = refl
 
   starts_both : (s : Settings) (m n : Measurement) (p q : Port) {x y : Started} {half new : Connectors} {v : Verdict} {r : StartedBoth} →
       x ≡ start_of p lines.camera s m → y ≡ start_of q lines.external s n →
@@ -40,4 +45,4 @@ pub returns : goal.returns
 returns c =
     let a = c.args in
     starts_both a.old a.lines a.settings a.camera a.external c.port_at.result c.port_at-2.result c.start-first.ensures c.start-second.ensures
-    c.with_port-half.ensures c.with_port-new.ensures c.first_refused-verdict.ensures c.started_by.ensures
+    c.with_port-half.ensures c.with_port-new.ensures (c.and-verdict.ensures ∙ first_is c.start-first.result.verdict c.start-second.result.verdict) c.started_by.ensures

@@ -1,4 +1,4 @@
-use Prim.Native.Nat.{ℕ, ◌+◌, ◌-◌, ◌≤◌}
+use Prim.Native.Nat.{ℕ, ◌+◌}
 use mathlib.Core.List.{List}
 use mathlib.Core.Path.{◌≡◌}
 use lib.ListN.{length, drop}
@@ -11,8 +11,4 @@ kept s n = record { bytes = s; len = n }
 
 abbrev pub invariant-loop-i : goal.invariant-loop-i
 invariant-loop-i l =
-    (l.i ≤ l.n) × (l.n ≡ length l.part) × (l.at + l.n ≤ cutter_length) × (length l.bytes ≡ cutter_length)
-    × (held_from (kept l.initial.bytes l.at) l.part ≡ held_from (kept l.bytes (l.at + l.i)) (drop l.i l.part))
-
-abbrev pub decreases-loop-i : goal.decreases-loop-i
-decreases-loop-i l = l.n - l.i
+    (length l.bytes ≡ cutter_length) × (held_from (kept l.initial.bytes l.at) l.part ≡ held_from (kept l.bytes (l.at + l.i)) (drop l.i l.part))

@@ -2,8 +2,8 @@
 use mathlib.Core.Bool.{false}
 use mathlib.Core.Path.{refl, sym, ap, ◌∙◌}
 use lib.ListN.{length}
+use Rattle.std.specs.Prelude.{Ok}
 use Rattle.laws.proofs.Tests.{yes, no}
-use Rattle.frame.specs.declared.Wrote.TheVariants.{Count}
 use Rattle.cutter.specs.Cutter.{hold_of}
 use Rattle.cutter.specs.declared.Cutter.{Cutter}
 use Rattle.cutter.proofs.Cutter.hold.Goals as goal
@@ -17,4 +17,4 @@ unfolding hold_of
 returns c =
     let n = length c.args.piece.now in
     yes _ (sym c.is_valid.ensures ∙ c.if-not-is_valid.false)
-    (ap (λ (x : Cutter). record { wrote = Count 0; used = n; ended = false; cutter = x }) c.held.ensures)
+    (ap (λ (x : Cutter). record { wrote = Ok 0; used = n; ended = false; cutter = x }) c.held.ensures)

@@ -8,28 +8,26 @@ use Rattle.follow.specs.declared.Text.{Text}
 use Rattle.follow.proofs.Laws.{joins_kept, joined_full, joined_next}
 use Rattle.follow.proofs.Text.joined.Goals as goal
 
-pub loop-i-init : goal.loop-i-init
-loop-i-init c = (omega arith, refl)
+pub loop-b-init : goal.loop-b-init
+loop-b-init c = refl
 
 pub returns-then-at-ge-HELD_LENGTH : goal.returns-then-at-ge-HELD_LENGTH
 returns-then-at-ge-HELD_LENGTH c =
-    let l = c.loop-i in
-    sym (l.invariant.1 ∙ joined_full l.text _ c.if-at-ge-HELD_LENGTH.true)
+    let l = c.loop-b in
+    sym (l.invariant ∙ joined_full l.text _ c.if-at-ge-HELD_LENGTH.true)
 
-pub loop-i-preserved : goal.loop-i-preserved
-loop-i-preserved c =
-    let l = c.loop-i in
-    let s = c.args.part.now in (
-      omega arith,
-      l.invariant.1
-          ∙ joined_next l.text s l.i (omega arith)
-          ∙ ap (λ (t : Text). joined_text t (drop (l.i + 1) s)) (joins_kept l.text _ (omega arith)),
-    )
+pub loop-b-preserved : goal.loop-b-preserved
+loop-b-preserved c =
+    let l = c.loop-b in
+    let s = c.args.part.now in
+    l.invariant
+    ∙ joined_next l.text s l.b-index (omega arith)
+    ∙ ap (λ (t : Text). joined_text t (drop (l.b-index + 1) s)) (joins_kept l.text _ (omega arith))
 
 pub returns : goal.returns
 unfolding joined_text
 returns c =
-    let l = c.loop-i in
+    let l = c.loop-b in
     let s = c.args.part.now in
-    let e : length s ≤ l.i = omega arith in
-    sym (l.invariant.1 ∙ ap (joined_text l.text) (drop_of_length-le s e))
+    let e : length s ≤ l.b-index = omega arith in
+    sym (l.invariant ∙ ap (joined_text l.text) (drop_of_length-le s e))

@@ -1,7 +1,7 @@
 -- `Port::measure` meets its contract: 16, then what the verdict on the measurement hands back. Assumes nothing.
 use mathlib.Core.Path.{refl, sym, ap, ◌∙◌}
 use Rattle.laws.proofs.Tests.{yes, no}
-use Rattle.refusal.specs.declared.Verdict.{Verdict}
+use Rattle.refusal.specs.Answer.{Verdict}
 use Rattle.port.specs.Port.{handed, measured_port, measure_of}
 use Rattle.port.proofs.Port.measure.Goals as goal
 

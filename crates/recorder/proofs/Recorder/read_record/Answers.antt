@@ -7,6 +7,6 @@ pub returns-then-setup : goal.returns-then-setup
 unfolding record_ending
 returns-then-setup c = c.read_packed.ensures ∙ sym (rw c.if-setup.true)
 
-pub returns : goal.returns
+pub returns-else-setup : goal.returns-else-setup
 unfolding record_ending
-returns c = c.read_text.ensures ∙ sym (rw c.if-setup.false)
+returns-else-setup c = c.read_text.ensures ∙ sym (rw c.if-setup.false)
