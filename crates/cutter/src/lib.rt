@@ -1,7 +1,8 @@
 // Cuts the camera side's stream, which comes in arbitrary pieces, into messages: each ends at its LF CR pair.
 #![tactic(auto)]
 
-ghost use Rattle.std.specs.Prelude.{◌≤◌, ◌≡◌, length};
+ghost use Rattle.std.specs.Prelude.{◌+◌, ◌≤◌, ◌≡◌, length};
+ghost use Rattle.laws.specs.Over.{over};
 ghost use Rattle.cutter.specs.Cutter.{after_lf, lf_before, quiet, BehindQuiet, PutsMessage};
 ghost use Rattle.cutter.specs.Clauses.{NextEnd, CutterFresh, CutterIsValid, CutterEndIn, CutterHeld, CutterHold, CutterCut};
 
@@ -73,6 +74,17 @@ pub fn next_end(stream: &[u8], lf: bool) -> Option<usize>
         }
     }
     None
+}
+
+// Writes a part of a message at its place. (`lent::put_text` has it copied, and from one lent memory to another the compiler asks
+// memmove of the host for that.)
+fn put_part(out: &mut [u8], at: usize, part: &[u8])
+    requires { at + length part.now ≤ length out.old }
+    ensures { out.new ≡ over out.old at part.now }
+{
+    for (i, b) in part.iter().enumerate() {
+        out[at + i] = *b;
+    }
 }
 
 impl Cutter {
@@ -170,16 +182,17 @@ impl Cutter {
     fn put_message(self, part: &[u8], out: &mut [u8]) -> Result<usize, Refusal>
         ensures { PutsMessage self part.now out.old result out.new }
     {
-        let held = self.held(part);
-        let n = held.len;
-        if CUTTER_LENGTH < n {
+        let at = self.len;
+        let n = part.len();
+        if CUTTER_LENGTH < at || CUTTER_LENGTH - at < n {
             return Err(Refusal::TooLong);
         }
-        if out.len() < n {
-            return Err(Refusal::Room(n));
+        if out.len() < at + n {
+            return Err(Refusal::Room(at + n));
         }
-        lent::put_text(out, 0, &held.bytes[..n]);
-        Ok(n)
+        put_part(out, 0, &self.bytes[..at]);
+        put_part(out, at, part);
+        Ok(at + n)
     }
 
     // Takes the piece up to the first end of a message, or all of it; the message goes to lent memory.

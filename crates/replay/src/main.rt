@@ -104,6 +104,17 @@ fn take_all(to: &impl Print, desk: Desk, input: &[u8], out: &mut [u8]) -> Desk
     now
 }
 
+// Prints what the lines of a piece tell. (In one function with the read, the room for it would be cleared at each turn once more.)
+fn told(to: &impl Print, desk: Desk, piece: &[u8]) -> Desk {
+    let mut out = [0u8; OUTPUT_LENGTH];
+    let after = take_all(to, desk, piece, &mut out);
+    write(to, &out, after.unwritten);
+    Desk {
+        unwritten: 0,
+        ..after
+    }
+}
+
 // Reads once, and prints what the lines that came told. The end of the input closes the desk, as a read that fails does.
 fn turn(from: &mut impl Read, to: &impl Print, desk: Desk) -> Desk {
     let mut input = [0u8; INPUT_LENGTH];
@@ -114,13 +125,7 @@ fn turn(from: &mut impl Read, to: &impl Print, desk: Desk) -> Desk {
             ..desk
         };
     }
-    let mut out = [0u8; OUTPUT_LENGTH];
-    let after = take_all(to, desk, &input[..n], &mut out);
-    write(to, &out, after.unwritten);
-    Desk {
-        unwritten: 0,
-        ..after
-    }
+    told(to, desk, &input[..n])
 }
 
 // A proved loop has to end, and nothing says that the input does: the turns count up to a number that no run
