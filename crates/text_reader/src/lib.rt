@@ -43,10 +43,18 @@ pub fn read_front(s: &[u8]) -> Four
     if s.len() != 19 {
         return Err(Wrong(1));
     }
-    let focus = codec::read_tagged(&s[0..8], b'D', 9999999).ok_or(Wrong(1))?;
-    let aperture = codec::read_tagged(&s[8..13], b'T', 4095).ok_or(Wrong(2))?;
-    let stop = read_stop(&s[13..17]).ok_or(Wrong(3))?;
-    let tenth = codec::read_tagged(&s[17..19], b'+', 9).ok_or(Wrong(4))?;
+    let Some(focus) = codec::read_tagged(&s[0..8], b'D', 9999999) else {
+        return Err(Wrong(1));
+    };
+    let Some(aperture) = codec::read_tagged(&s[8..13], b'T', 4095) else {
+        return Err(Wrong(2));
+    };
+    let Some(stop) = read_stop(&s[13..17]) else {
+        return Err(Wrong(3));
+    };
+    let Some(tenth) = codec::read_tagged(&s[17..19], b'+', 9) else {
+        return Err(Wrong(4));
+    };
     Ok((focus, aperture, stop, tenth))
 }
 
@@ -57,10 +65,18 @@ pub fn read_middle(s: &[u8]) -> Four
     if s.len() != 29 {
         return Err(Wrong(5));
     }
-    let focal = codec::read_tagged(&s[0..5], b'Z', 1023).ok_or(Wrong(5))?;
-    let hyperfocal = codec::read_tagged(&s[5..13], b'H', 9999999).ok_or(Wrong(6))?;
-    let near = codec::read_tagged(&s[13..21], b'N', 9999999).ok_or(Wrong(7))?;
-    let far = codec::read_tagged(&s[21..29], b'F', 9999999).ok_or(Wrong(8))?;
+    let Some(focal) = codec::read_tagged(&s[0..5], b'Z', 1023) else {
+        return Err(Wrong(5));
+    };
+    let Some(hyperfocal) = codec::read_tagged(&s[5..13], b'H', 9999999) else {
+        return Err(Wrong(6));
+    };
+    let Some(near) = codec::read_tagged(&s[13..21], b'N', 9999999) else {
+        return Err(Wrong(7));
+    };
+    let Some(far) = codec::read_tagged(&s[21..29], b'F', 9999999) else {
+        return Err(Wrong(8));
+    };
     Ok((focal, hyperfocal, near, far))
 }
 
@@ -71,9 +87,15 @@ pub fn with_zoom(s: &[u8], zoom: Option<u32>) -> Three
     if s.len() != 11 {
         return Err(Wrong(9));
     }
-    let view = read_view(&s[0..6]).ok_or(Wrong(9))?;
-    let pupil = pupil::read_pupil_text(&s[6..11]).ok_or(Wrong(10))?;
-    let thousandths = zoom.ok_or(Wrong(11))?;
+    let Some(view) = read_view(&s[0..6]) else {
+        return Err(Wrong(9));
+    };
+    let Some(pupil) = pupil::read_pupil_text(&s[6..11]) else {
+        return Err(Wrong(10));
+    };
+    let Some(thousandths) = zoom else {
+        return Err(Wrong(11));
+    };
     Ok((view, pupil, thousandths))
 }
 

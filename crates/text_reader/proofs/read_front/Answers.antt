@@ -1,6 +1,5 @@
 -- `text_reader::read_front` meets its contract: the first wrong field of four, or all of them. Assumes nothing.
-use mathlib.Core.Path.{sym, ap, ◌∙◌}
-use Rattle.laws.proofs.Exits.{had, lacked, exits}
+use mathlib.Core.Path.{sym, ◌∙◌}
 use Rattle.codec.proofs.Fields.{gave, refused, wrong_first, wrong_later, right_both, parsed_other}
 use Rattle.record.specs.Forms.{front_text}
 use Rattle.gather.specs.Gather.{four_says}
@@ -11,31 +10,37 @@ pub returns-then-s-ne19 : goal.returns-then-s-ne19
 unfolding four_says
 returns-then-s-ne19 c = sym (parsed_other front_text 1 front_width _ c.if-s-ne19.true)
 
-pub returns-in_err-focus : goal.returns-in_err-focus
+pub returns-in_default : goal.returns-in_default
 unfolding four_says
-returns-in_err-focus c =
-    ap four_says (exits _ _ _ c.ok_or.ensures.value c.in_err-focus.was c.from_residual.ensures.1)
-    ∙ sym (front_parts _ c.if-s-ne19.false ∙ wrong_first _ (refused 1 c.read_tagged.ensures (lacked _ _ c.ok_or.ensures.value c.in_err-focus.was)))
+returns-in_default c =
+    sym
+    (front_parts _ c.if-s-ne19.false
+    ∙ wrong_first _ (refused 1 c.read_tagged.ensures c.in_default.is))
 
-pub returns-in_err-aperture : goal.returns-in_err-aperture
+pub returns-in_default-read_tagged : goal.returns-in_default-read_tagged
 unfolding four_says
-returns-in_err-aperture c =
-    ap four_says (exits _ _ _ c.ok_or-2.ensures.value c.in_err-aperture.was c.from_residual-in_err-aperture.ensures.1)
-    ∙ sym (front_parts _ c.if-s-ne19.false ∙ wrong_later (gave 1 c.read_tagged.ensures (had _ _ c.ok_or.ensures.value c.in_ok-focus.was)) (wrong_first _ (refused 2 c.read_tagged-2.ensures (lacked _ _ c.ok_or-2.ensures.value c.in_err-aperture.was))))
+returns-in_default-read_tagged c =
+    sym
+    (front_parts _ c.if-s-ne19.false
+    ∙ wrong_later (gave 1 c.read_tagged.ensures c.in-Some.is) (wrong_first _ (refused 2 c.read_tagged-2.ensures c.in_default-read_tagged.is)))
 
-pub returns-in_err-stop : goal.returns-in_err-stop
+pub returns-in_default-read_stop : goal.returns-in_default-read_stop
 unfolding four_says
-returns-in_err-stop c =
-    ap four_says (exits _ _ _ c.ok_or-3.ensures.value c.in_err-stop.was c.from_residual-in_err-stop.ensures.1)
-    ∙ sym (front_parts _ c.if-s-ne19.false ∙ wrong_later (gave 1 c.read_tagged.ensures (had _ _ c.ok_or.ensures.value c.in_ok-focus.was)) (wrong_later (gave 2 c.read_tagged-2.ensures (had _ _ c.ok_or-2.ensures.value c.in_ok-aperture.was)) (wrong_first _ (refused 3 c.read_stop.ensures (lacked _ _ c.ok_or-3.ensures.value c.in_err-stop.was)))))
+returns-in_default-read_stop c =
+    sym
+    (front_parts _ c.if-s-ne19.false
+    ∙ wrong_later (gave 1 c.read_tagged.ensures c.in-Some.is) (wrong_later (gave 2 c.read_tagged-2.ensures c.in-Some-read_tagged.is) (wrong_first _ (refused 3 c.read_stop.ensures c.in_default-read_stop.is))))
 
-pub returns-in_err-tenth : goal.returns-in_err-tenth
+pub returns-in_default-read_tagged-2 : goal.returns-in_default-read_tagged-2
 unfolding four_says
-returns-in_err-tenth c =
-    ap four_says (exits _ _ _ c.ok_or-4.ensures.value c.in_err-tenth.was c.from_residual-in_err-tenth.ensures.1)
-    ∙ sym (front_parts _ c.if-s-ne19.false ∙ wrong_later (gave 1 c.read_tagged.ensures (had _ _ c.ok_or.ensures.value c.in_ok-focus.was)) (wrong_later (gave 2 c.read_tagged-2.ensures (had _ _ c.ok_or-2.ensures.value c.in_ok-aperture.was)) (wrong_later (gave 3 c.read_stop.ensures (had _ _ c.ok_or-3.ensures.value c.in_ok-stop.was)) (refused 4 c.read_tagged-3.ensures (lacked _ _ c.ok_or-4.ensures.value c.in_err-tenth.was)))))
+returns-in_default-read_tagged-2 c =
+    sym
+    (front_parts _ c.if-s-ne19.false
+    ∙ wrong_later (gave 1 c.read_tagged.ensures c.in-Some.is) (wrong_later (gave 2 c.read_tagged-2.ensures c.in-Some-read_tagged.is) (wrong_later (gave 3 c.read_stop.ensures c.in-Some-read_stop.is) (refused 4 c.read_tagged-3.ensures c.in_default-read_tagged-2.is))))
 
 pub returns : goal.returns
 unfolding four_says
 returns c =
-    sym (front_parts _ c.if-s-ne19.false ∙ right_both (gave 1 c.read_tagged.ensures (had _ _ c.ok_or.ensures.value c.in_ok-focus.was)) (right_both (gave 2 c.read_tagged-2.ensures (had _ _ c.ok_or-2.ensures.value c.in_ok-aperture.was)) (right_both (gave 3 c.read_stop.ensures (had _ _ c.ok_or-3.ensures.value c.in_ok-stop.was)) (gave 4 c.read_tagged-3.ensures (had _ _ c.ok_or-4.ensures.value c.in_ok-tenth.was)))))
+    sym
+    (front_parts _ c.if-s-ne19.false
+    ∙ right_both (gave 1 c.read_tagged.ensures c.in-Some.is) (right_both (gave 2 c.read_tagged-2.ensures c.in-Some-read_tagged.is) (right_both (gave 3 c.read_stop.ensures c.in-Some-read_stop.is) (gave 4 c.read_tagged-3.ensures c.in-Some-read_tagged-2.is))))

@@ -1,6 +1,5 @@
 -- `text_reader::read_middle` meets its contract: the first wrong field of four, or all of them. Assumes nothing.
-use mathlib.Core.Path.{sym, ap, ◌∙◌}
-use Rattle.laws.proofs.Exits.{had, lacked, exits}
+use mathlib.Core.Path.{sym, ◌∙◌}
 use Rattle.codec.proofs.Fields.{gave, refused, wrong_first, wrong_later, right_both, parsed_other}
 use Rattle.record.specs.Forms.{middle_text}
 use Rattle.gather.specs.Gather.{four_says}
@@ -11,31 +10,37 @@ pub returns-then-s-ne29 : goal.returns-then-s-ne29
 unfolding four_says
 returns-then-s-ne29 c = sym (parsed_other middle_text 5 middle_width _ c.if-s-ne29.true)
 
-pub returns-in_err-focal : goal.returns-in_err-focal
+pub returns-in_default : goal.returns-in_default
 unfolding four_says
-returns-in_err-focal c =
-    ap four_says (exits _ _ _ c.ok_or.ensures.value c.in_err-focal.was c.from_residual.ensures.1)
-    ∙ sym (middle_parts _ c.if-s-ne29.false ∙ wrong_first _ (refused 5 c.read_tagged.ensures (lacked _ _ c.ok_or.ensures.value c.in_err-focal.was)))
+returns-in_default c =
+    sym
+    (middle_parts _ c.if-s-ne29.false
+    ∙ wrong_first _ (refused 5 c.read_tagged.ensures c.in_default.is))
 
-pub returns-in_err-hyperfocal : goal.returns-in_err-hyperfocal
+pub returns-in_default-read_tagged : goal.returns-in_default-read_tagged
 unfolding four_says
-returns-in_err-hyperfocal c =
-    ap four_says (exits _ _ _ c.ok_or-2.ensures.value c.in_err-hyperfocal.was c.from_residual-in_err-hyperfocal.ensures.1)
-    ∙ sym (middle_parts _ c.if-s-ne29.false ∙ wrong_later (gave 5 c.read_tagged.ensures (had _ _ c.ok_or.ensures.value c.in_ok-focal.was)) (wrong_first _ (refused 6 c.read_tagged-2.ensures (lacked _ _ c.ok_or-2.ensures.value c.in_err-hyperfocal.was))))
+returns-in_default-read_tagged c =
+    sym
+    (middle_parts _ c.if-s-ne29.false
+    ∙ wrong_later (gave 5 c.read_tagged.ensures c.in-Some.is) (wrong_first _ (refused 6 c.read_tagged-2.ensures c.in_default-read_tagged.is)))
 
-pub returns-in_err-near : goal.returns-in_err-near
+pub returns-in_default-read_tagged-2 : goal.returns-in_default-read_tagged-2
 unfolding four_says
-returns-in_err-near c =
-    ap four_says (exits _ _ _ c.ok_or-3.ensures.value c.in_err-near.was c.from_residual-in_err-near.ensures.1)
-    ∙ sym (middle_parts _ c.if-s-ne29.false ∙ wrong_later (gave 5 c.read_tagged.ensures (had _ _ c.ok_or.ensures.value c.in_ok-focal.was)) (wrong_later (gave 6 c.read_tagged-2.ensures (had _ _ c.ok_or-2.ensures.value c.in_ok-hyperfocal.was)) (wrong_first _ (refused 7 c.read_tagged-3.ensures (lacked _ _ c.ok_or-3.ensures.value c.in_err-near.was)))))
+returns-in_default-read_tagged-2 c =
+    sym
+    (middle_parts _ c.if-s-ne29.false
+    ∙ wrong_later (gave 5 c.read_tagged.ensures c.in-Some.is) (wrong_later (gave 6 c.read_tagged-2.ensures c.in-Some-read_tagged.is) (wrong_first _ (refused 7 c.read_tagged-3.ensures c.in_default-read_tagged-2.is))))
 
-pub returns-in_err-far : goal.returns-in_err-far
+pub returns-in_default-read_tagged-3 : goal.returns-in_default-read_tagged-3
 unfolding four_says
-returns-in_err-far c =
-    ap four_says (exits _ _ _ c.ok_or-4.ensures.value c.in_err-far.was c.from_residual-in_err-far.ensures.1)
-    ∙ sym (middle_parts _ c.if-s-ne29.false ∙ wrong_later (gave 5 c.read_tagged.ensures (had _ _ c.ok_or.ensures.value c.in_ok-focal.was)) (wrong_later (gave 6 c.read_tagged-2.ensures (had _ _ c.ok_or-2.ensures.value c.in_ok-hyperfocal.was)) (wrong_later (gave 7 c.read_tagged-3.ensures (had _ _ c.ok_or-3.ensures.value c.in_ok-near.was)) (refused 8 c.read_tagged-4.ensures (lacked _ _ c.ok_or-4.ensures.value c.in_err-far.was)))))
+returns-in_default-read_tagged-3 c =
+    sym
+    (middle_parts _ c.if-s-ne29.false
+    ∙ wrong_later (gave 5 c.read_tagged.ensures c.in-Some.is) (wrong_later (gave 6 c.read_tagged-2.ensures c.in-Some-read_tagged.is) (wrong_later (gave 7 c.read_tagged-3.ensures c.in-Some-read_tagged-2.is) (refused 8 c.read_tagged-4.ensures c.in_default-read_tagged-3.is))))
 
 pub returns : goal.returns
 unfolding four_says
 returns c =
-    sym (middle_parts _ c.if-s-ne29.false ∙ right_both (gave 5 c.read_tagged.ensures (had _ _ c.ok_or.ensures.value c.in_ok-focal.was)) (right_both (gave 6 c.read_tagged-2.ensures (had _ _ c.ok_or-2.ensures.value c.in_ok-hyperfocal.was)) (right_both (gave 7 c.read_tagged-3.ensures (had _ _ c.ok_or-3.ensures.value c.in_ok-near.was)) (gave 8 c.read_tagged-4.ensures (had _ _ c.ok_or-4.ensures.value c.in_ok-far.was)))))
+    sym
+    (middle_parts _ c.if-s-ne29.false
+    ∙ right_both (gave 5 c.read_tagged.ensures c.in-Some.is) (right_both (gave 6 c.read_tagged-2.ensures c.in-Some-read_tagged.is) (right_both (gave 7 c.read_tagged-3.ensures c.in-Some-read_tagged-2.is) (gave 8 c.read_tagged-4.ensures c.in-Some-read_tagged-3.is))))

@@ -6,7 +6,6 @@ use mir.Val.{to_z, of_z}
 use borrow.Author.Rules.{rules}
 use borrow.Author.Tests.{ne_eqb}
 use Rattle.laws.proofs.Tests.{no}
-use Rattle.laws.proofs.Exits.{had, lacked, exits}
 use Rattle.codec.proofs.Fields.{gave, refused, wrong_first, wrong_later, right_both}
 use Rattle.pupil.specs.Pupil.{pupil_says}
 use Rattle.gather.specs.Gather.{three_says}
@@ -18,26 +17,30 @@ pub returns-then-s-ne11 : goal.returns-then-s-ne11
 unfolding three_says with_zoom
 returns-then-s-ne11 c = no _ (ne_eqb _ _ c.if-s-ne11.true) refl
 
-pub returns-in_err-view : goal.returns-in_err-view
+pub returns-in_default : goal.returns-in_default
 unfolding three_says
-returns-in_err-view c =
-    ap three_says (exits _ _ _ c.ok_or.ensures.value c.in_err-view.was c.from_residual.ensures.1)
-    ∙ sym (zoom_parts _ c.args.zoom c.if-s-ne11.false ∙ wrong_first _ (refused 9 c.read_view.ensures (lacked _ _ c.ok_or.ensures.value c.in_err-view.was)))
+returns-in_default c =
+    sym (zoom_parts _ c.args.zoom c.if-s-ne11.false ∙ wrong_first _ (refused 9 c.read_view.ensures c.in_default.is))
 
-pub returns-in_err-pupil : goal.returns-in_err-pupil
+pub returns-in_default-read_pupil_text : goal.returns-in_default-read_pupil_text
 unfolding three_says pupil_says
-returns-in_err-pupil c =
-    ap three_says (exits _ _ _ c.ok_or-2.ensures.value c.in_err-pupil.was c.from_residual-in_err-pupil.ensures.1)
-    ∙ sym (zoom_parts _ c.args.zoom c.if-s-ne11.false ∙ wrong_later (gave 9 c.read_view.ensures (had _ _ c.ok_or.ensures.value c.in_ok-view.was)) (wrong_first _ (ap pupil_says (sym c.read_pupil_text.ensures ∙ lacked _ _ c.ok_or-2.ensures.value c.in_err-pupil.was))))
+returns-in_default-read_pupil_text c =
+    sym
+    (zoom_parts _ c.args.zoom c.if-s-ne11.false
+    ∙ wrong_later (gave 9 c.read_view.ensures c.in-Some.is) (wrong_first _ (ap pupil_says (sym c.read_pupil_text.ensures ∙ c.in_default-read_pupil_text.is))))
 
-pub returns-in_err-thousandths : goal.returns-in_err-thousandths
+pub returns-in_default-zoom : goal.returns-in_default-zoom
 unfolding three_says pupil_says
-returns-in_err-thousandths c =
-    ap three_says (exits _ _ _ c.ok_or-3.ensures.value c.in_err-thousandths.was c.from_residual-in_err-thousandths.ensures.1)
-    ∙ sym (zoom_parts _ c.args.zoom c.if-s-ne11.false ∙ wrong_later (gave 9 c.read_view.ensures (had _ _ c.ok_or.ensures.value c.in_ok-view.was)) (wrong_later (ap pupil_says (sym c.read_pupil_text.ensures ∙ had _ _ c.ok_or-2.ensures.value c.in_ok-pupil.was)) (refused 11 refl (lacked _ _ c.ok_or-3.ensures.value c.in_err-thousandths.was))))
+returns-in_default-zoom c =
+    sym
+    (zoom_parts _ c.args.zoom c.if-s-ne11.false
+    ∙ wrong_later (gave 9 c.read_view.ensures c.in-Some.is) (wrong_later (ap pupil_says (sym c.read_pupil_text.ensures ∙ c.in-Some-read_pupil_text.is)) (refused 11 refl c.in_default-zoom.is)))
 
 pub returns : goal.returns
 unfolding three_says pupil_says
 returns c =
-    let same : to_z w32 (of_z w32 c.in_ok-pupil.pupil) ≡ c.in_ok-pupil.pupil = to_z-of_z {w = mir.Syntax.w32} (search rules) in
-    rw same (sym (zoom_parts _ c.args.zoom c.if-s-ne11.false ∙ right_both (gave 9 c.read_view.ensures (had _ _ c.ok_or.ensures.value c.in_ok-view.was)) (right_both (ap pupil_says (sym c.read_pupil_text.ensures ∙ had _ _ c.ok_or-2.ensures.value c.in_ok-pupil.was)) (gave 11 refl (had _ _ c.ok_or-3.ensures.value c.in_ok-thousandths.was)))))
+    let same : to_z w32 (of_z w32 c.in-Some-read_pupil_text.pupil) ≡ c.in-Some-read_pupil_text.pupil = to_z-of_z {w = mir.Syntax.w32} (search rules) in
+    rw same
+    (sym
+    (zoom_parts _ c.args.zoom c.if-s-ne11.false
+    ∙ right_both (gave 9 c.read_view.ensures c.in-Some.is) (right_both (ap pupil_says (sym c.read_pupil_text.ensures ∙ c.in-Some-read_pupil_text.is)) (gave 11 refl c.in-Some-zoom.is))))
