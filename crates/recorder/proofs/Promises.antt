@@ -17,7 +17,7 @@ use Rattle.refusal.specs.declared.Refusal.TheVariants.{Room, State}
 use Rattle.cutter.specs.Cutter.{Said, invalid, nothing, ended, cut_of, whole_left}
 use Rattle.cutter.specs.declared.Cutter.{Cutter}
 use Rattle.cutter.proofs.Promises as cutter
-use Rattle.recorder.specs.Recorder.{valid_recorder, asking, hands_out, send_of, reading_of, take_by, take_of, has_made, is_opening, verdict_in}
+use Rattle.recorder.specs.Recorder.{valid_recorder, asking, hands_out, send_of, reading_of, take_by, take_of, has_made, is_opening, verdict_in, items_in, fields_in}
 use Rattle.recorder.specs.Promises.{Promised}
 use Rattle.recorder.specs.declared.Setup.{Setup}
 use Rattle.recorder.specs.declared.Recorder.{Recorder}
@@ -144,7 +144,7 @@ module _ (r : Recorder) (out : List ℕ) where
       (λ v s h. let g = (send_asking r out v s h).answers in never (cc))
 
 pub promised : Promised
-unfolding verdict_in is_opening take_of take_by
+unfolding verdict_in is_opening items_in fields_in take_of take_by
 promised = record {
   of_messages = record {
     first_off = refl;
@@ -155,10 +155,10 @@ promised = record {
     opened = λ s before. opened s;
     waits = λ s ms. waits s;
     opens = λ s before. opens s;
-    told_fixed = λ f. (refl, refl);
-    told_no_fixed = λ x. (refl, refl);
-    told_record = λ a. (refl, refl);
-    told_no_record = λ x. (refl, refl);
+    told_fixed = λ f. (refl, refl, refl, refl);
+    told_no_fixed = λ x. (refl, refl, refl, refl);
+    told_record = λ a. (refl, refl, refl, refl);
+    told_no_record = λ x. (refl, refl, refl, refl);
   };
   any_calls = record { readings = readings; left = left; elsewhere = elsewhere; runs = runs };
   each_call = record {

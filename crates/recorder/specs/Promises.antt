@@ -5,12 +5,14 @@ use Rattle.refusal.specs.declared.Refusal.{Refusal}
 use Rattle.refusal.specs.declared.Refusal.TheVariants.{Room, State}
 use Rattle.frame.specs.Message.{read_of}
 use Rattle.record.specs.Forms.{text_form, packed_form}
+use Rattle.record.specs.Record.{no_record}
 use Rattle.record.specs.declared.Record.{Record}
+use Rattle.fixed.specs.Fixed.{no_fixed}
 use Rattle.fixed.specs.Form.{fixed_form}
 use Rattle.fixed.specs.declared.Fixed.{Fixed}
 use Rattle.cutter.specs.Cutter.{fresh, held_from, nothing, ended, cut_of, whole_left}
 use Rattle.cutter.specs.Stream.{messages, tail, judged, judged_all}
-use Rattle.recorder.specs.Recorder.{first_setup, start_of, valid_recorder, hands_out, send_of, form_of, take_of, has_made, is_opening, verdict_in}
+use Rattle.recorder.specs.Recorder.{first_setup, start_of, valid_recorder, hands_out, send_of, form_of, take_of, has_made, is_opening, verdict_in, items_in, fields_in}
 use Rattle.recorder.specs.Messages.{readings_from, open_from, Ran}
 use Rattle.recorder.specs.declared.Setup.{Setup}
 use Rattle.recorder.specs.declared.Recorder.{Recorder}
@@ -50,11 +52,19 @@ pub record OfMessages : Type 0 where
   pub waits : (s : Setup) (ms : List (List ℕ)) → NoneAccepted ms → open_from s false ms ≡ false
   pub opens : (s : Setup) (before after : List (List ℕ)) (m : List ℕ) (f : Fixed) → NoneAccepted before →
       judged (read_of fixed_form false) m ≡ Ok f → open_from s false (before ++ m ∷ after) ≡ true
-  -- what is told of a message: the reader's answer, and which reader it was
-  pub told_fixed : (f : Fixed) → let x = Ok (Some (as_fixed (Ok f))) in (verdict_in x ≡ Ok tt) × (is_opening x ≡ true)
-  pub told_no_fixed : (x : Refusal) → let y = Ok (Some (as_fixed (Err x))) in (verdict_in y ≡ Err x) × (is_opening y ≡ true)
-  pub told_record : (a : Record) → let x = Ok (Some (as_record (Ok a))) in (verdict_in x ≡ Ok tt) × (is_opening x ≡ false)
-  pub told_no_record : (x : Refusal) → let y = Ok (Some (as_record (Err x))) in (verdict_in y ≡ Err x) × (is_opening y ≡ false)
+  -- what is told of a message: the reader's answer, which reader it was, and the contents; of a refused one they are zero
+  pub told_fixed : (f : Fixed) →
+      let x = Ok (Some (as_fixed (Ok f))) in
+      (verdict_in x ≡ Ok tt) × (is_opening x ≡ true) × (items_in x ≡ f) × (fields_in x ≡ no_record)
+  pub told_no_fixed : (x : Refusal) →
+      let y = Ok (Some (as_fixed (Err x))) in
+      (verdict_in y ≡ Err x) × (is_opening y ≡ true) × (items_in y ≡ no_fixed) × (fields_in y ≡ no_record)
+  pub told_record : (a : Record) →
+      let x = Ok (Some (as_record (Ok a))) in
+      (verdict_in x ≡ Ok tt) × (is_opening x ≡ false) × (items_in x ≡ no_fixed) × (fields_in x ≡ a)
+  pub told_no_record : (x : Refusal) →
+      let y = Ok (Some (as_record (Err x))) in
+      (verdict_in y ≡ Err x) × (is_opening y ≡ false) × (items_in y ≡ no_fixed) × (fields_in y ≡ no_record)
 
 -- ---- over every sequence of calls
 

@@ -5,8 +5,11 @@ use Rattle.refusal.specs.declared.Refusal.TheVariants.{State}
 use Rattle.codec.specs.Codec.{Codec}
 use Rattle.frame.specs.Message.{read_of}
 use Rattle.record.specs.Forms.{text_form, packed_form}
+use Rattle.record.specs.Record.{no_record}
 use Rattle.record.specs.declared.Record.{Record}
+use Rattle.fixed.specs.Fixed.{no_fixed}
 use Rattle.fixed.specs.Form.{fixed_form}
+use Rattle.fixed.specs.declared.Fixed as fixed
 use Rattle.cutter.specs.Cutter.{fresh, valid_cutter, held_from, held_message, Said, invalid, nothing, ended, cut_of, then_read, whole_in}
 use Rattle.cutter.specs.declared.Cutter.{Cutter}
 use Rattle.recorder.specs.declared.Setup.{Setup}
@@ -105,6 +108,22 @@ verdict_in (Ok (Some (as_fixed (Ok f)))) = Ok tt
 verdict_in (Ok (Some (as_fixed (Err x)))) = Err x
 verdict_in (Ok (Some (as_record (Ok a)))) = Ok tt
 verdict_in (Ok (Some (as_record (Err x)))) = Err x
+
+-- the fixed data that was read; zeros where none was
+unfoldable pub items_in : Answer (Option Reading) → fixed.Fixed
+items_in (Err x) = no_fixed
+items_in (Ok None) = no_fixed
+items_in (Ok (Some (as_fixed (Ok f)))) = f
+items_in (Ok (Some (as_fixed (Err x)))) = no_fixed
+items_in (Ok (Some (as_record a))) = no_fixed
+
+-- the record that was read; zeros where none was
+unfoldable pub fields_in : Answer (Option Reading) → Record
+fields_in (Err x) = no_record
+fields_in (Ok None) = no_record
+fields_in (Ok (Some (as_fixed a))) = no_record
+fields_in (Ok (Some (as_record (Ok a)))) = a
+fields_in (Ok (Some (as_record (Err x)))) = no_record
 
 -- ---- the parts of a call
 

@@ -52,7 +52,7 @@ pub enum Reading {
 pub struct Recorded {
     // Of the message that ended, where one did; or 16.
     pub made: Result<Option<Reading>, Refusal>,
-    // How many bytes of the piece were taken; a message ends at the last of them.
+    // How many bytes of the piece were taken; a message that ended did so at the last of them.
     pub used: usize,
     pub recorder: Recorder,
 }
