@@ -104,7 +104,8 @@ fn take_all(to: &impl Print, desk: Desk, input: &[u8], out: &mut [u8]) -> Desk
     now
 }
 
-// Prints what the lines of a piece tell. (In one function with the read, the room for it would be cleared at each turn once more.)
+// Prints what the lines of a piece tell. (Kept apart: in one function with the read, the room for it is cleared at each turn once more.)
+#[inline(never)]
 fn told(to: &impl Print, desk: Desk, piece: &[u8]) -> Desk {
     let mut out = [0u8; OUTPUT_LENGTH];
     let after = take_all(to, desk, piece, &mut out);
